@@ -1,0 +1,56 @@
+//! Makes the oracle out of the ion-hf source text and links the verified functions.
+//! No line of the source is kept here: only what is changed in it.
+
+#[path = "build/changes.rs"]
+mod changes;
+#[path = "build/text.rs"]
+mod text;
+
+use std::env;
+use std::fs;
+use std::path::{Path, PathBuf};
+
+fn main() {
+    println!("cargo::rerun-if-changed=build.rs");
+    println!("cargo::rerun-if-changed=build");
+    println!("cargo::rustc-check-cfg=cfg(ion_hf)");
+    link_probes();
+    let source = source_folder();
+    println!("cargo::rerun-if-changed={}", source.display());
+    if source.join("crates").is_dir() {
+        write_oracle(&source);
+        println!("cargo::rustc-cfg=ion_hf");
+    }
+}
+
+/// A path from the environment, else one relative to this package.
+fn path_from(variable: &str, relative: &str) -> PathBuf {
+    println!("cargo::rerun-if-env-changed={variable}");
+    match env::var_os(variable) {
+        Some(path) => path.into(),
+        None => Path::new(&env::var_os("CARGO_MANIFEST_DIR").unwrap()).join(relative),
+    }
+}
+
+fn source_folder() -> PathBuf {
+    path_from("ION_HF_SRC", "../../shared/docs/src")
+}
+
+fn link_probes() {
+    let folder = path_from("PROBES_DIR", "../target/staticlib");
+    let library = folder.join("libprobes.a");
+    println!("cargo::rerun-if-changed={}", library.display());
+    assert!(library.is_file(), "no {}: run `rt staticlib probes` first", library.display());
+    println!("cargo::rustc-link-search=native={}", folder.display());
+    println!("cargo::rustc-link-lib=static=probes");
+}
+
+fn write_oracle(source: &Path) {
+    let out = PathBuf::from(env::var_os("OUT_DIR").unwrap());
+    for part in changes::PARTS {
+        let path = source.join(part.file);
+        let whole = fs::read_to_string(&path).unwrap_or_else(|e| panic!("{}: {e}", path.display()));
+        let made = text::make(part, &whole).unwrap_or_else(|why| panic!("{}: {why}", part.file));
+        fs::write(out.join(part.name), made).unwrap();
+    }
+}

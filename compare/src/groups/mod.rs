@@ -1,0 +1,61 @@
+//! The comparison, one file a group. A new group is a file here and a line in `ALL`.
+
+pub mod burst_lengths;
+mod choices;
+mod exponential;
+mod gain;
+mod logarithms;
+mod mix;
+mod narrow;
+mod roots;
+mod slot_lists;
+mod slots;
+mod steps;
+mod waves;
+
+use std::sync::Mutex;
+use std::sync::atomic::{AtomicUsize, Ordering};
+use std::thread;
+
+use crate::report::Tally;
+
+pub use burst_lengths::LONGEST;
+
+const ALL: &[fn() -> Tally] = &[
+    narrow::compare,
+    roots::compare32,
+    roots::compare64,
+    choices::compare,
+    exponential::compare,
+    logarithms::compare_ln,
+    logarithms::compare_ln_1p,
+    waves::compare_sin,
+    waves::compare_cos,
+    gain::compare,
+    mix::compare_mix,
+    mix::compare_scramble,
+    steps::compare,
+    slots::compare,
+    slot_lists::compare,
+];
+
+/// Runs every group, two at a time, and answers them in their order.
+pub fn run() -> Vec<Tally> {
+    let next = AtomicUsize::new(0);
+    let done = Mutex::new(Vec::new());
+    let work = || {
+        loop {
+            let i = next.fetch_add(1, Ordering::Relaxed);
+            let Some(group) = ALL.get(i) else { return };
+            let tally = group();
+            done.lock().unwrap().push((i, tally));
+        }
+    };
+    thread::scope(|s| {
+        s.spawn(work);
+        s.spawn(work);
+    });
+    let mut done = done.into_inner().unwrap();
+    done.sort_by_key(|d| d.0);
+    done.into_iter().map(|d| d.1).collect()
+}

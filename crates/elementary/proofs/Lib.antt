@@ -1,0 +1,13 @@
+pub mod Decimals
+pub mod Turns
+pub mod TurnBounds
+pub mod WholePart
+pub mod PowerScale
+pub mod ExpCases
+pub mod Quotients
+pub mod LnParts
+pub mod Products
+pub mod Quarters
+pub mod NearestGain
+pub mod NoBorrow
+pub mod Laws

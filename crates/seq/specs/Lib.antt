@@ -1,0 +1,4 @@
+pub mod Loop
+pub mod Tab
+pub mod Cat
+pub mod Fill
