@@ -1,0 +1,11 @@
+pub mod Decimals
+pub mod Each
+pub mod Turns
+pub mod Phases
+pub mod Fits
+pub mod Small
+pub mod Kept
+pub mod Comb
+pub mod Cells
+pub mod Bounds
+pub mod Examples

@@ -1,0 +1,4 @@
+pub mod Table
+pub mod Constellation
+pub mod Power
+pub mod Laws

@@ -1,0 +1,4 @@
+pub mod Signs
+pub mod Costs
+pub mod Prefix
+pub mod Laws

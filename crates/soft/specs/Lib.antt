@@ -1,0 +1,3 @@
+pub mod Soft
+pub mod Tree
+pub mod Laws
