@@ -1,14 +1,11 @@
 -- Document 01's worked examples, computed. Assumes nothing.
 use Prim.Native.Nat.{ℕ, zero, suc}
-use mathlib.Core.Path.{_≡_, refl, sym, _∙_}
+use mathlib.Core.Path.{_≡_, ap, _∙_}
 use mathlib.Core.Bool.{Bool, true, false}
 use mathlib.Core.List.{List, [], _∷_, _++_}
-use native.Mathlib.Omega.{arith}
-use native.Mathlib.Numerals.{add-one}
 use lib.Ieee.{Float}
 use Rattle.seq.specs.Cat.{cat}
-use Rattle.seq.specs.Cat.Laws.{cat-for}
-use Rattle.seq.specs.Loop.Laws.{for-none, for-next}
+use Rattle.seq.specs.Cat.Laws.{cat-zero, cat-suc}
 use Rattle.layout.specs.Layouts.{quarter, layouts, layoutOf}
 use Rattle.layout.specs.Patterns.{firstPilot, onPattern}
 use Rattle.layout.specs.Sizes.{patternOf}
@@ -22,8 +19,8 @@ joined (suc n) f = joined n f ++ f n
 -- `cat` computes by its laws alone
 is-joined : (n : ℕ) (f : ℕ → List ℕ) → cat n f ≡ joined n f
 unfolding joined
-is-joined zero f = sym (cat-for f 0 []) ∙ sym (for-none (λ i r. r ++ f i) 0 [])
-is-joined (suc n) f = sym (cat-for f (suc n) []) ∙ rw (← add-one n, for-next (λ (i : ℕ) (r : List ℕ). r ++ f i) 0 n [] (omega arith), cat-for f n [], is-joined n f)
+is-joined zero f = cat-zero f
+is-joined (suc n) f = cat-suc f n ∙ ap (λ (l : List ℕ). l ++ f n) (is-joined n f)
 
 listed : (sparse : Bool) (gain : Float) (g : ℕ) → dataCarriers (mapOf (layoutOf 7) sparse gain) g ≡ joined (mapOf (layoutOf 7) sparse gain .nc) (dataAt (mapOf (layoutOf 7) sparse gain) g)
 unfolding dataCarriers

@@ -5,9 +5,8 @@ use mathlib.Core.List.{List}
 use lib.Ieee.{Float}
 use lib.ListN.{length, length-set, length-replicate}
 use Rattle.ieee.specs.Num.{zero64}
-use Rattle.seq.specs.Loop.Laws.{for-all}
+use Rattle.seq.specs.Loop.Laws.{for-all, back-all}
 use Rattle.solve.specs.Solve.{below, put2, zeros, diagonal, column, factor, forwardRow, forward, backwardRow, backward, solveSpd}
-use Rattle.solve.proofs.Turns.{back-all}
 
 -- a list of n numbers
 abbrev Has : ℕ → List Float → Type 0

@@ -109,6 +109,14 @@ pub record Place {A : Type 0} (f : ℕ → List A) (d : A) (n i : ℕ) : Type 0 
   pub same : getD (cat n f) i d ≡ getD (f k) t d
 
 module _ {A : Type 0} (f : ℕ → List A) where
+  pub cat-zero : cat 0 f ≡ []
+  unfolding cat
+  cat-zero = refl
+
+  pub cat-suc : (k : ℕ) → cat (suc k) f ≡ cat k f ++ f k
+  unfolding cat
+  cat-suc k = refl
+
   pub cat-next : (k : ℕ) → length (cat (k + 1) f) ≡ length (cat k f) + length (f k)
   unfolding cat
   cat-next k = rw add-one (length-append (cat k f) (f k))

@@ -1,6 +1,6 @@
 -- What a proof uses of `for` and `back`: nothing done yet, one turn more, the end, and what every turn keeps.
 use Prim.Native.Nat.{ℕ, zero, suc, _+_, _-_, _≤_, _<_}
-use mathlib.Core.Path.{_≡_, refl, ap, _∙_}
+use mathlib.Core.Path.{_≡_, refl, sym, ap, _∙_}
 use native.Mathlib.Omega.{arith}
 use Rattle.seq.specs.Loop.{turns, for, back}
 
@@ -47,6 +47,27 @@ module _ {S : Type 0} (f : ℕ → S → S) where
   back-end n s r h e =
       let q : n ≡ 0 = omega arith in
       rw q at e
+
+  for-join : (a b : ℕ) (s : S) → a ≤ b → (n : ℕ) → for b (b + n) f (for a b f s) ≡ for a (b + n) f s
+  for-join a b s h zero =
+      let e : b + 0 ≡ b = omega arith in
+      rw e (sym (for-none b (for a b f s)))
+  for-join a b s h (suc n) =
+      let e : b + suc n ≡ b + n + 1 = omega arith in
+      rw (e, for-next b (b + n) (for a b f s) (omega arith), for-next a (b + n) s (omega arith), for-join a b s h n)
+
+  -- a loop after a loop: the turns from b to c, from what the turns from a to b made
+  pub for-after : (a b c : ℕ) (s t u : S) → a ≤ b → b ≤ c → t ≡ for a b f s → u ≡ for b c f t → u ≡ for a c f s
+  for-after a b c s t u h h' e e' =
+      let q : b + (c - b) ≡ c = omega arith in
+      let j : _ = for-join a b s h (c - b) in
+      e' ∙ (ap (for b c f) e ∙ (rw q at j))
+
+  -- what each turn keeps holds at the end of a loop that counts down
+  pub back-all : (P : S → Type 0) → ((i : ℕ) (t : S) → P t → P (f i t)) → (n : ℕ) (s : S) → P s → P (back n f s)
+  unfolding back
+  back-all P step zero s p = p
+  back-all P step (suc n) s p = back-all P step n (f n s) (step n s p)
 
 -- what each turn keeps holds at the end
 pub for-all : {S : Type 0} (P : S → Type 0) (f : ℕ → S → S) (a b : ℕ) (s : S) → ((i : ℕ) (t : S) → a ≤ i → i < a + (b - a) → P t → P (f i t)) → P s → P (for a b f s)

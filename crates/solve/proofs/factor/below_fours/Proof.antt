@@ -3,9 +3,8 @@ use Prim.Native.Nat.{_≤_, _+_, _-_}
 use mathlib.Core.Path.{_≡_}
 use native.Mathlib.Omega.{arith}
 use Rattle.seq.specs.Loop.{for}
-use Rattle.seq.specs.Loop.Laws.{for-none}
+use Rattle.seq.specs.Loop.Laws.{for-none, for-after}
 use Rattle.solve.specs.Solve.{below}
-use Rattle.solve.proofs.Turns.{for-after}
 use Rattle.solve.proofs.factor.below_fours.Statement.{statement}
 use Rattle.solve.proofs.factor.below_fours.Tie as tie
 

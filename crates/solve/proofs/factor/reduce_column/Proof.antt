@@ -1,8 +1,8 @@
 -- `solve::reduce_column` meets its contract: the rows by fours and the rest are one loop. Assumes nothing.
 use native.Mathlib.Omega.{arith}
 use borrow.Author.Needs.{needs}
+use Rattle.seq.specs.Loop.Laws.{for-after}
 use Rattle.solve.specs.Solve.{column}
-use Rattle.solve.proofs.Turns.{for-after}
 use Rattle.solve.proofs.factor.reduce_column.Statement.{statement}
 use Rattle.solve.proofs.factor.reduce_column.Tie as tie
 
