@@ -1,10 +1,9 @@
 -- Small facts on NaN. Assumes nothing.
-use mathlib.Core.Path.{_≡_, refl, sym, ap, _∙_, subst}
+use mathlib.Core.Path.{_≡_, refl, sym, _∙_, subst}
 use Prim.Native.Nat.{ℕ, _*_, _%_, _^_, _≤_, _<_}
-use native.Mathlib.Nat.{mul-one}
 use mathlib.Core.Bool.{Bool, true, false, not, cond}
 use lib.Dec.{T, ltb, lt→ltb}
-use lib.Ieee.{Float, nan, inf, fin, Format, binary32, binary64, up, down, low, prec, emax, size, ones, hid, top, odd, units, round, ofBits, isNan, nanBits, div, ne}
+use lib.Ieee.{Float, nan, inf, fin, Format, binary32, binary64, up, down, low, prec, ones, hid, top, odd, units, round, ofBits, isNan, nanBits, div, ne}
 use lib.Ieee.Compare.{nan-differs}
 use lib.Arith.{le→nltb}
 use lib.Ieee.Bits.{nanBits-above, nanBits-is}

@@ -5,11 +5,11 @@ use mathlib.Core.Logic.{_⊎_, inl, inr}
 use mathlib.Core.Bool.{Bool, true, false, not, _&&_, _||_, cond}
 use native.Mathlib.Nat.{le-of-lt, le-of-eq, mul-one, mul-pos, pow-suc, zero-lt-suc, eq-or-lt-of-le}
 use native.Mathlib.Omega.{arith}
-use lib.Dec.{T, ltb, eqb, ltb→lt, lt→ltb, eqb→eq, nltb→le, T-not}
+use lib.Dec.{T, ltb, eqb, ltb→lt, eqb→eq}
 use lib.Arith.{le→nltb}
 use lib.Pow.{pow-pos}
 use lib.IntN.{ℤ, pos, negsuc}
-use lib.Ieee.{Float, nan, inf, fin, Format, binary64, up, down, below, level, lt, le, eq, ne, neg, isNan, fits, ofBits}
+use lib.Ieee.{Float, nan, inf, fin, binary64, up, down, below, level, lt, le, eq, ne, neg, isNan, fits, ofBits}
 use lib.Ieee.Compare.{differs-from-itself}
 use lib.Ieee.Fits.{and-l, and-r, up-pos}
 use borrow.Author.Tests.{ltb-true, ltb-false, lt-ltb, le-ltb, eq-eqb}

@@ -1,15 +1,15 @@
 -- The root of a value by its bit pattern, in either format. Assumes nothing.
 use mathlib.Core.Path.{_≡_, refl, sym, ap, _∙_, subst}
 use mathlib.Core.Logic.{_⊎_, inl, inr}
-use Prim.Native.Nat.{ℕ, zero, suc, _+_, _-_, _*_, _/_, _%_, _^_, _≤_, _<_, zero-le}
-use native.Mathlib.Nat.{le-refl, le-trans, le-of-eq, le-of-lt, le-of-suc-le-suc, lt-irrefl, lt-of-lt-of-le, lt-of-le-of-lt, lt-of-not-le, not-le-of-lt, eq-or-lt-of-le, zero-lt-suc, zero-add, zero-mul, mul-one, mul-comm, mul-assoc, suc-mul, mul-le-mul-right, mul-le-mul-left, mul-le-mul, mul-lt-mul-of-pos-right, mul-lt-mul-of-pos-left, mul-pos}
+use Prim.Native.Nat.{ℕ, zero, suc, _+_, _-_, _*_, _/_, _%_, _^_, _≤_, _<_}
+use native.Mathlib.Nat.{le-trans, le-of-eq, le-of-suc-le-suc, lt-irrefl, lt-of-lt-of-le, lt-of-le-of-lt, lt-of-not-le, not-le-of-lt, eq-or-lt-of-le, zero-lt-suc, zero-add, zero-mul, mul-one, mul-assoc, suc-mul, mul-le-mul-right, mul-le-mul-left, mul-lt-mul-of-pos-right, mul-lt-mul-of-pos-left, mul-pos}
 use native.Mathlib.Omega.{arith}
 use mathlib.Core.Bool.{Bool, true, false, not, cond}
-use lib.Dec.{T, leb, le→leb, leb→le, not-T, lit<, lit≤}
+use lib.Dec.{T, leb, le→leb, leb→le, not-T}
 use lib.Pow.{pow-add, pow-pos, pow-mono, shl-lt}
 use lib.Count.{leadingZeros, leading-top}
-use lib.Ieee.{Float, nan, inf, fin, Format, binary32, binary64, prec, emax, low, hid, ones, top, up, down, units, ofBits, nanBits, isNan}
-use lib.Ieee.Bits.{is-true, is-false, nanBits-is, nanBits-above}
+use lib.Ieee.{Float, nan, inf, fin, Format, prec, low, hid, ones, top, up, down, units, ofBits, nanBits, isNan}
+use lib.Ieee.Bits.{is-true, is-false, nanBits-is}
 use lib.Ieee.Fits.{two, two-le-pos, down-pos}
 use lib.Ieee.Exact.{HasValue}
 use lib.Ieee.Scale.{overflow}

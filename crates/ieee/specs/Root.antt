@@ -1,6 +1,6 @@
 -- The square root: `rooted f x` is what `ieee::sqrt32` and `ieee::sqrt64` answer. `Nearest` says that it is the rounding of IEEE 754.
 use Prim.Native.Nat.{ℕ, zero, suc, _+_, _-_, _*_, _/_, _^_, _≤_, _<_, compare}
-use mathlib.Core.Bool.{true, false, cond}
+use mathlib.Core.Bool.{false, cond}
 use lib.Dec.{leb}
 use lib.Ieee.{Float, nan, inf, fin, Format, prec, low, up, down, size, nearest, units}
 

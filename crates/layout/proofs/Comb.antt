@@ -1,6 +1,6 @@
 -- A comb has a tooth at s, at s + step, and so on. How many numbers stand between its teeth before c, and which is the j-th. Assumes nothing.
 use Prim.Native.Nat.{ℕ, zero, suc, _+_, _-_, _*_, _/_, _%_, min, _≤_, _<_}
-use mathlib.Core.Path.{_≡_, refl, sym, ap, _∙_}
+use mathlib.Core.Path.{_≡_, sym, ap, _∙_}
 use mathlib.Core.Bool.{Bool, true, false}
 use mathlib.Core.List.{List, []}
 use native.Mathlib.Nat.{mul-suc, suc-mul, add-mul, mul-le-mul-right, mod-lt, mod-eq-of-lt, mul-add-mod-self-right, div-add-mod', div-eq-of-lt, div-eq-of-lt-le, div-lt-iff-lt-mul}

@@ -10,7 +10,6 @@ use Rattle.ieee.specs.Num.{_⊞_}
 use Rattle.ieee.proofs.Orders.{le-not-lt, lt-not-lt}
 use Rattle.elementary.specs.Exp.{expAt}
 use Rattle.elementary.specs.Ln.{ln1pAt}
-use Rattle.elementary.specs.Constants.{unit}
 use Rattle.elementary.proofs.Laws.{exp-laws, ln1p-laws}
 use Rattle.soft.specs.Soft.{softplusOf, costOf}
 use Rattle.soft.proofs.Signs.{nought, side, nan-side, add-side, neg-side}

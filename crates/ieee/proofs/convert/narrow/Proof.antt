@@ -1,18 +1,14 @@
 -- `ieee::narrow` meets its contract. Assumes nothing.
-use mathlib.Core.Path.{_≡_, refl, sym, ap, _∙_, subst}
-use mathlib.Core.Bool.{Bool, true, false, not}
-use lib.Dec.{T, not-T}
-use lib.Ieee.{Float, nan, inf, fin, binary32, binary64, fits, ofBits, toBits, isNan, nanBits, div, ne}
+use mathlib.Core.Path.{_≡_, sym, ap, _∙_, subst}
+use mathlib.Core.Bool.{Bool, not}
+use lib.Dec.{T}
+use lib.Ieee.{binary32, binary64, fits, ofBits, toBits, isNan}
 use lib.Ieee.Bits.{ofBits-toBits, nanBits-is}
-use lib.Ieee.Compare.{differs-from-itself, nan-differs}
-use lib.Ieee.Fits.{round-fits}
+use lib.Ieee.Compare.{differs-from-itself}
 use Rattle.ieee.specs.Narrow.{narrowed}
 use Rattle.ieee.proofs.Floats.{is-no-nan, quotient-nan, narrowed-nan, narrowed-no-nan}
 use Rattle.ieee.proofs.convert.narrow.Statement.{statement}
 use Rattle.ieee.proofs.convert.narrow.Tie as tie
-use Rattle.ieee.proofs.convert.narrow.Reads as reads
-use Rattle.ieee.proofs.convert.narrow.Lts as lts
-use Rattle.ieee.proofs.convert.narrow_bits.Reads as narrow-bits-reads
 
 held : (c : tie.Start) → T (fits binary64 (c .args .x))
 held c = subst T (sym (c .good .0 .1)) tt

@@ -1,17 +1,14 @@
 -- `ieee::narrow_bits` meets its contract. Assumes nothing.
-use mathlib.Core.Path.{_≡_, refl, sym, ap, _∙_, subst}
-use Prim.Native.Nat.{ℕ, suc, _+_, _-_, _*_, _/_, _%_, _^_, _≤_, _<_}
-use native.Mathlib.Nat.{add-assoc, add-comm}
+use mathlib.Core.Path.{_≡_, sym, ap, _∙_, subst}
+use Prim.Native.Nat.{ℕ, _+_, _-_, _*_, _/_, _%_, _^_, _≤_, _<_}
+use native.Mathlib.Nat.{add-assoc}
 use native.Mathlib.Omega.{arith}
-use lib.Dec.{lit<, lit≤}
+use lib.Dec.{lit≤}
 use lib.Ieee.{binary32, ofBits}
 use lib.Ieee.Nearest.{closest}
 use Rattle.ieee.proofs.Narrowing.{kept-most, way-top, way-normal, way-small, way-none}
 use Rattle.ieee.proofs.convert.narrow_bits.Statement.{statement}
 use Rattle.ieee.proofs.convert.narrow_bits.Tie as tie
-use Rattle.ieee.proofs.convert.narrow_bits.Reads as reads
-use Rattle.ieee.proofs.convert.narrow_bits.Lts as lts
-use Rattle.ieee.proofs.convert.shifted.Reads as shifted-reads
 
 Q-lt : (b : ℕ) → 4503599627370496 + b % 4503599627370496 < 2 ^ 53
 Q-lt b = omega arith

@@ -3,30 +3,22 @@ use native.Mathlib.Omega.{arith}
 use Rattle.ieee.proofs.Floats.{is-no-nan}
 use Rattle.ieee.proofs.newton.scaled.Statement.{statement}
 use Rattle.ieee.proofs.newton.scaled.Tie as tie
-use Rattle.ieee.proofs.newton.scaled.Reads as reads
-use Rattle.ieee.proofs.newton.scaled.Lts as lts
 
--- src/lib.rt:134:9
 returns : tie.Need-returns
 returns c = omega arith
 
--- src/lib.rt:136:13
 float-to-bits-j : tie.Need-float-to-bits-j
 float-to-bits-j c = is-no-nan (c .before .args .t) (c .if1 .left)
 
--- src/lib.rt:138:9
 returns-2 : tie.Need-returns-2
 returns-2 c = omega arith
 
--- src/lib.rt:141:9
 returns-3 : tie.Need-returns-3
 returns-3 c = omega arith
 
--- src/lib.rt:143:5
 sub-result : tie.Need-sub-result
 sub-result c = omega arith
 
--- src/lib.rt:130:1
 returns-4 : tie.Need-returns-4
 returns-4 c = omega arith
 

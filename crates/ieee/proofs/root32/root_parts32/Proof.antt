@@ -1,7 +1,6 @@
 -- `ieee::root_parts32` meets its contract. Assumes nothing.
-use mathlib.Core.Path.{_≡_, refl, sym, ap, _∙_, subst}
 use Prim.Native.Nat.{ℕ, _+_, _-_, _*_, _/_, _%_, _^_, _≤_, _<_}
-use native.Mathlib.Nat.{le-trans, le-of-eq, lt-of-le-of-lt, lt-of-lt-of-le, mul-one, mul-le-mul, mul-le-mul-left, mul-le-mul-right, mul-pos}
+use native.Mathlib.Nat.{lt-of-le-of-lt, lt-of-lt-of-le, mul-le-mul, mul-le-mul-left, mul-le-mul-right, mul-pos}
 use native.Mathlib.Omega.{arith}
 use lib.Dec.{lit<}
 use lib.Pow.{pow-mono}
@@ -9,10 +8,6 @@ use lib.Ieee.{binary32}
 use Rattle.ieee.proofs.Rooting.{root-pattern}
 use Rattle.ieee.proofs.root32.root_parts32.Statement.{statement}
 use Rattle.ieee.proofs.root32.root_parts32.Tie as tie
-use Rattle.ieee.proofs.root32.root_parts32.Reads as reads
-use Rattle.ieee.proofs.root32.root_parts32.Lts as lts
-use Rattle.ieee.proofs.newton.guess32.Reads as guess32-reads
-use Rattle.ieee.proofs.root32.settle32.Reads as settle32-reads
 
 twice : (m w : ℕ) → m * (1 + w % 2) ≤ m * 2
 twice m w = mul-le-mul-left m (at-most w)
@@ -32,11 +27,9 @@ under m n h k = omega arith
 half : (w : ℕ) → w ≤ 379 → w / 2 ≤ 189
 half w h = omega arith
 
--- src/lib.rt:152:20
 guess32-requires : tie.Need-guess32-requires
 guess32-requires c κs = omega arith
 
--- src/lib.rt:152:38
 add-settle32 : tie.Need-add-settle32
 add-settle32 c = omega arith
 
@@ -55,15 +48,12 @@ settle32-requires c κs =
     let w = c .before .args .w in
     (c .guess32 .ensures, (mul-pos (mul-pos (lt-of-lt-of-le (lit< tt) (c .before .pre .0 .0)) (some w)) (lit< tt), under m (m * (1 + w % 2) * 8388608) (product m w) (c .before .pre .0 .1)))
 
--- src/lib.rt:153:5
 mul-result : tie.Need-mul-result
 mul-result c = omega arith
 
--- src/lib.rt:153:5
 add-result : tie.Need-add-result
 add-result c = omega arith
 
--- src/lib.rt:147:1
 returns : tie.Need-returns
 returns c =
     let m = c .before .before .args .m in

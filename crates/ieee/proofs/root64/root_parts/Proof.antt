@@ -1,7 +1,6 @@
 -- `ieee::root_parts` meets its contract. Assumes nothing.
-use mathlib.Core.Path.{_≡_, refl, sym, ap, _∙_, subst}
 use Prim.Native.Nat.{ℕ, _+_, _-_, _*_, _/_, _%_, _^_, _≤_, _<_}
-use native.Mathlib.Nat.{le-trans, le-of-eq, lt-of-le-of-lt, lt-of-lt-of-le, mul-one, mul-le-mul, mul-le-mul-left, mul-pos}
+use native.Mathlib.Nat.{lt-of-le-of-lt, lt-of-lt-of-le, mul-le-mul, mul-le-mul-left, mul-pos}
 use native.Mathlib.Omega.{arith}
 use lib.Dec.{lit<}
 use lib.Pow.{pow-mono}
@@ -9,10 +8,6 @@ use lib.Ieee.{binary64}
 use Rattle.ieee.proofs.Rooting.{root-pattern}
 use Rattle.ieee.proofs.root64.root_parts.Statement.{statement}
 use Rattle.ieee.proofs.root64.root_parts.Tie as tie
-use Rattle.ieee.proofs.root64.root_parts.Reads as reads
-use Rattle.ieee.proofs.root64.root_parts.Lts as lts
-use Rattle.ieee.proofs.newton.guess.Reads as guess-reads
-use Rattle.ieee.proofs.root64.settle.Reads as settle-reads
 
 twice : (m w : ℕ) → m * (1 + w % 2) ≤ m * 2
 twice m w = mul-le-mul-left m (at-most w)
@@ -29,34 +24,27 @@ under m n h k = omega arith
 half : (w : ℕ) → w ≤ 3067 → w / 2 ≤ 1533
 half w h = omega arith
 
--- src/lib.rt:152:20
 guess-requires : tie.Need-guess-requires
 guess-requires c κs = omega arith
 
--- src/lib.rt:152:38
 add-settle : tie.Need-add-settle
 add-settle c = omega arith
 
--- src/lib.rt:152:33
 mul-settle : tie.Need-mul-settle
 mul-settle c = omega (arith, twice (c .before .args .m) (c .before .args .w))
 
--- src/lib.rt:152:9
 settle-requires : tie.Need-settle-requires
 settle-requires c κs =
     let m = c .before .args .m in
     let w = c .before .args .w in
     (c .guess .ensures, (mul-pos (lt-of-lt-of-le (lit< tt) (c .before .pre .0 .0)) (some w), under m (m * (1 + w % 2)) (twice m w) (c .before .pre .0 .1)))
 
--- src/lib.rt:153:5
 mul-result : tie.Need-mul-result
 mul-result c = omega arith
 
--- src/lib.rt:153:5
 add-result : tie.Need-add-result
 add-result c = omega arith
 
--- src/lib.rt:147:1
 returns : tie.Need-returns
 returns c =
     let m = c .before .before .args .m in

@@ -5,7 +5,6 @@ use native.Mathlib.Omega.{arith}
 use borrow.Author.Needs.{needs}
 use Rattle.seq.specs.Loop.{for}
 use Rattle.seq.specs.Loop.Laws.{for-none, for-step, for-end}
-use Rattle.solve.specs.Four.{Reduced4}
 use Rattle.solve.specs.Solve.{at2, minusRows, reduced}
 use Rattle.solve.proofs.fours.reduce4.Statement.{statement}
 use Rattle.solve.proofs.fours.reduce4.Tie as tie

@@ -1,5 +1,4 @@
 -- `Layout::data_carriers` meets its contract. Assumes nothing.
-use mathlib.Core.Path.{refl}
 use borrow.Author.Needs.{needs}
 use Rattle.layout.specs.Sizes.{dataCarriersOf}
 use Rattle.layout.proofs.Fits.{pattern-fits, pilots-le}

@@ -1,6 +1,5 @@
 -- `Layout::ncell` meets its contract. Assumes nothing.
 use Prim.Native.Nat.{_≤_}
-use mathlib.Core.Path.{refl}
 use native.Mathlib.Nat.{mul-le-mul}
 use native.Mathlib.Omega.{arith}
 use borrow.Author.Needs.{needs}

@@ -1,5 +1,4 @@
 -- `Layout::pattern` meets its contract. Assumes nothing.
-use mathlib.Core.Path.{refl}
 use Rattle.layout.specs.Sizes.{patternOf}
 use Rattle.layout.proofs.layouts.Layout.pattern.Statement.{statement}
 use Rattle.layout.proofs.layouts.Layout.pattern.Tie as tie

@@ -1,5 +1,4 @@
 -- `Map::b_value` meets its contract: the numbers are small, and the phase is one that sin and cos are asked for. Assumes nothing.
-use mathlib.Core.Path.{refl}
 use native.Mathlib.Omega.{arith}
 use lib.Ieee.{binary32, binary64}
 use borrow.Author.Needs.{needs}

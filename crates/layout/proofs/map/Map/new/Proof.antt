@@ -1,5 +1,4 @@
 -- `Map::new` meets its contract. Assumes nothing.
-use mathlib.Core.Path.{refl}
 use borrow.Author.Needs.{needs}
 use Rattle.layout.specs.Maps.{mapOf}
 use Rattle.layout.proofs.map.Map.new.Statement.{statement}

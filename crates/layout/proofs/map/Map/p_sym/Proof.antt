@@ -1,6 +1,5 @@
 -- `Map::p_sym` meets its contract: the counts are small enough to be f32. Assumes nothing.
 use Prim.Native.Nat.{_≤_}
-use mathlib.Core.Path.{refl}
 use native.Mathlib.Omega.{arith}
 use lib.Ieee.{binary32}
 use borrow.Author.Needs.{needs}

@@ -1,5 +1,4 @@
 -- `Map::pattern` meets its contract. Assumes nothing.
-use mathlib.Core.Path.{refl}
 use borrow.Author.Tests.{lt-ltb, le-ltb}
 use Rattle.layout.specs.Maps.{patternAt}
 use Rattle.layout.proofs.map.Map.pattern.Statement.{statement}

@@ -1,6 +1,6 @@
 -- `Map::pilot_sign` meets its contract: a cell's number fits 32 bits. Assumes nothing.
 use Prim.Native.Nat.{_%_}
-use mathlib.Core.Path.{refl, sym, _∙_}
+use mathlib.Core.Path.{sym, _∙_}
 use native.Mathlib.Omega.{arith}
 use lib.Bits.{and-mask}
 use borrow.Author.Needs.{needs}

@@ -1,5 +1,4 @@
 -- `Map::pilot_value` meets its contract. Assumes nothing.
-use mathlib.Core.Path.{refl}
 use borrow.Author.Needs.{needs}
 use borrow.Author.Tests.{le-leb, lt-leb}
 use Rattle.layout.specs.Known.{pilotValue}
