@@ -39,6 +39,26 @@ pub const PARTS: &[Part] = &[
         ),
         ..part("from_slots.rs", REFINE, ("        (0..nbits)\n", "    }\n}\n\n/// Soft interference"), &[])
     },
+    // Its lines on what each data cell is expected to be as sent.
+    Part {
+        frame: (
+            "pub fn sent(sl: &[f32], cons: Constellation, mode: DataMode, dc: usize) -> (Vec<Complex>, Vec<f32>) {
+        let gain = mode.gain();
+        let (g2, pts, (pts_s, _)) = (gain * gain, cons.points(), scaled(cons, gain));
+        let (bps, ncell) = (pts.bps, sl.len() / pts.bps);\n",
+            "let _ = (em, ev); (xm, xv) }\n",
+        ),
+        ..part("sent.rs", REFINE, ("        let mut xm = vec!", "        let p_h = self.p_h;"), &[])
+    },
+    // Its lines that scale the points and take their mean energy, and its test of a mean.
+    Part {
+        frame: ("pub fn scaled(cons: Constellation, gain: f32) -> (Points, f32) {\n", "let _ = bps; (pts_s, es) }\n"),
+        ..part("scaled.rs", REFINE, ("        let g2 = gain * gain;", "        let map = self.map;"), &[])
+    },
+    Part {
+        frame: ("pub fn loud(x: Complex, es: f32) -> bool { ", " }\n"),
+        ..part("loud.rs", REFINE, ("x.norm_sqr() >= SOFT_MIN", " {\n                    soft[g * nc"), &[])
+    },
 ];
 
 const COMPLEX: Change =
@@ -101,4 +121,5 @@ const IN_REFINE: &[Change] = &[
     ),
     change("pub(super) fn new(", "pub fn new(", 1),
     change("\nfn ", "\npub fn ", 3),
+    change("\nconst SOFT_MIN", "\npub const SOFT_MIN", 1),
 ];

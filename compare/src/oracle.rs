@@ -46,4 +46,16 @@ pub mod phy {
         include!(concat!(env!("OUT_DIR"), "/to_slots.rs"));
         include!(concat!(env!("OUT_DIR"), "/from_slots.rs"));
     }
+
+    /// The lines of refine on the points and their means.
+    pub mod expected {
+        use super::Constellation;
+        use super::frame::{DataMode, Points, Spreader};
+        use super::rx::refine::{SOFT_MIN, soft_point};
+        use crate::oracle::dsp::Complex;
+
+        include!(concat!(env!("OUT_DIR"), "/sent.rs"));
+        include!(concat!(env!("OUT_DIR"), "/scaled.rs"));
+        include!(concat!(env!("OUT_DIR"), "/loud.rs"));
+    }
 }

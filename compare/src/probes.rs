@@ -1,6 +1,11 @@
 //! The verified functions, as their static library hands them out. Outside its domain a probe
 //! answers NaN.
 
+pub mod cells;
+pub mod constellations;
+pub mod pilots;
+pub mod spreading;
+
 unsafe extern "C" {
     #[link_name = "probe_narrow"]
     pub safe fn narrow(x: f64) -> f32;

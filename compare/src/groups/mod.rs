@@ -4,12 +4,19 @@ pub mod burst_lengths;
 mod choices;
 mod exponential;
 mod gain;
+mod known;
+mod layouts;
 mod logarithms;
 mod mix;
 mod narrow;
+mod pilots;
+mod points;
 mod roots;
 mod slot_lists;
 mod slots;
+mod soft_points;
+mod softness;
+mod spreading;
 mod steps;
 mod waves;
 
@@ -37,6 +44,15 @@ const ALL: &[fn() -> Tally] = &[
     steps::compare,
     slots::compare,
     slot_lists::compare,
+    layouts::compare_pilots,
+    layouts::compare_carriers,
+    known::compare,
+    points::compare,
+    soft_points::compare,
+    softness::compare_softplus,
+    softness::compare_loud,
+    spreading::compare,
+    pilots::compare,
 ];
 
 /// Runs every group, two at a time, and answers them in their order.

@@ -64,10 +64,10 @@ fn slot_lists() {
     let n = ARGUMENTS as usize;
     let list = arguments(|r| (80.0 * r.unit() - 40.0) as f32);
     let mut out = vec![0.0; n];
-    let ours = least(|| probes::to_slots(&list, n, &mut out));
-    let theirs = least(|| slots::to_slots(black_box(&list), n));
+    let ours = least(ARGUMENTS, || probes::to_slots(&list, n, &mut out));
+    let theirs = least(ARGUMENTS, || slots::to_slots(black_box(&list), n));
     show("to_slots", ours, theirs);
-    let ours = least(|| probes::from_slots(&list, n, &mut out));
-    let theirs = least(|| slots::from_slots(black_box(&list), n));
+    let ours = least(ARGUMENTS, || probes::from_slots(&list, n, &mut out));
+    let theirs = least(ARGUMENTS, || slots::from_slots(black_box(&list), n));
     show("from_slots", ours, theirs);
 }

@@ -1,2 +1,5 @@
+pub mod Asked
+pub mod Loadings
 pub mod Puts
+pub mod Stores
 pub mod Withins

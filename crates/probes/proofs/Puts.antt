@@ -3,7 +3,6 @@ use Prim.Native.Nat.{ℕ}
 use mathlib.Core.Bool.{Bool, true, false}
 use mathlib.Core.Path.{_≡_, refl, sym, subst}
 use mathlib.Core.List.{List, _++_}
-use lib.Dec.{T}
 use lib.ListN.{drop}
 use lib.Ieee.{Float}
 use Rattle.probes.specs.Within.{Put}

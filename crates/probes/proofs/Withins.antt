@@ -1,6 +1,6 @@
 -- `within` by the one test that decides it.
 use mathlib.Core.Bool.{Bool, true, false, not, _||_}
-use mathlib.Core.Path.{_≡_, refl, sym, ap, _∙_, subst}
+use mathlib.Core.Path.{_≡_, sym, subst}
 use lib.Dec.{T}
 use lib.Ieee.{Float, nan, lt, le, eq}
 use Rattle.probes.specs.Within.{within}

@@ -1,8 +1,24 @@
 // The leaf functions under C names, for the comparison with the Rust. None has a `requires`: each says what it answers to anything.
+mod cells;
+mod constellations;
 mod functions;
+mod lists;
 mod numbers;
+mod pilots;
 mod slots;
+mod spreading;
 
+pub use cells::probe_cell_index;
+pub use cells::probe_data_carrier;
+pub use cells::probe_is_pilot;
+pub use cells::probe_known;
+pub use constellations::probe_loud;
+pub use constellations::probe_mean_energy;
+pub use constellations::probe_points;
+pub use constellations::probe_scaled;
+pub use constellations::probe_soft_point;
+pub use constellations::probe_soft_point_of;
+pub use constellations::probe_softplus;
 pub use functions::probe_cos;
 pub use functions::probe_exp;
 pub use functions::probe_gain;
@@ -18,9 +34,13 @@ pub use numbers::probe_max64;
 pub use numbers::probe_narrow;
 pub use numbers::probe_sqrt32;
 pub use numbers::probe_sqrt64;
+pub use pilots::probe_load;
 pub use slots::probe_from_slots;
 pub use slots::probe_interleave_step;
 pub use slots::probe_mix32;
 pub use slots::probe_scramble;
 pub use slots::probe_slot;
 pub use slots::probe_to_slots;
+pub use spreading::probe_forward;
+pub use spreading::probe_spread;
+pub use spreading::probe_twiddles;

@@ -1,5 +1,4 @@
 -- `probes::probe_gain` meets its contract.
-use mathlib.Core.Path.{sym}
 use native.Mathlib.Omega.{arith}
 use borrow.Author.Needs.{needs}
 use borrow.Author.Tests.{le-leb, lt-leb}

@@ -1,5 +1,4 @@
 -- `probes::probe_ln` meets its contract.
-use borrow.Author.Needs.{needs}
 use Rattle.ieee.proofs.Floats.{quotient-nan}
 use Rattle.probes.proofs.Withins.{outside, inside, allowed}
 use Rattle.probes.proofs.functions.probe_ln.Statement.{statement}

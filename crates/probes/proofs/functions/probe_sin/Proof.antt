@@ -1,5 +1,4 @@
 -- `probes::probe_sin` meets its contract.
-use borrow.Author.Needs.{needs}
 use Rattle.ieee.proofs.Floats.{quotient-nan64}
 use Rattle.probes.proofs.Withins.{outside, inside, not-below}
 use Rattle.probes.proofs.functions.probe_sin.Statement.{statement}

@@ -1,0 +1,90 @@
+-- `load` meets its contract: before each turn the lists hold the pilots of the symbols visited. Assumes nothing.
+use Prim.Native.Nat.{_≤_, _+_, _-_, _*_}
+use mathlib.Core.Path.{_≡_, refl, _∙_}
+use native.Mathlib.Omega.{arith}
+use borrow.Author.Needs.{needs}
+use lib.ListN.{length, length-set}
+use Rattle.load.specs.Find.{foundAt}
+use Rattle.load.specs.Fit.{Room, places}
+use Rattle.load.specs.Work.{Upto}
+use Rattle.load.proofs.Storing.{all-loaded}
+use Rattle.load.proofs.Turns.{room-kept, rows-begin}
+use Rattle.load.proofs.rows.load.Statement.{statement}
+use Rattle.load.proofs.rows.load.Tie as tie
+
+abbrev Inv-loop : tie.InvT-loop
+Inv-loop s grid sigma cells expected w₀ pf₀ ng at g₀ w pf g =
+    (g ≤ s .ng) × Room s grid w pf × (length w ≡ length w₀) × (length pf ≡ length pf₀) × Upto s grid (foundAt s sigma cells expected) g w pf
+
+abbrev μ-loop : tie.MeasureT-loop
+μ-loop s grid sigma cells expected w₀ pf₀ ng at g₀ w pf g = s .ng - g
+
+abbrev start : tie.At-loop Inv-loop μ-loop → tie.Start Inv-loop μ-loop
+start l = l .before .before .before .before .before .before .before .before .before
+
+mul-at : tie.Need-mul-at Inv-loop μ-loop
+mul-at c = search needs
+
+mul-at-2 : tie.Need-mul-at-2 Inv-loop μ-loop
+mul-at-2 c = search needs
+
+mul-w : tie.Need-mul-w Inv-loop μ-loop
+mul-w c = search needs
+
+slice-write-w : tie.Need-slice-write-w Inv-loop μ-loop
+slice-write-w c = search needs
+
+loop-holds : tie.Need-loop-holds Inv-loop μ-loop
+loop-holds c =
+    let b = c .before .before .before .before .before .before .before .before in
+    let a = b .args in
+    (omega arith, room-kept (simp length-set) refl (b .pre .1), refl, refl, rows-begin (a .s) (a .grid .now) _ (a .w .now) (a .pf .now) (omega (arith, b .pre .1 .long-w)))
+
+row-requires : tie.Need-row-requires Inv-loop μ-loop
+row-requires c κs = search needs
+
+add-g : tie.Need-add-g Inv-loop μ-loop
+add-g c = search needs
+
+loop-less : tie.Need-loop-less Inv-loop μ-loop
+loop-less c = search needs
+
+loop-again : tie.Need-loop-again Inv-loop μ-loop
+loop-again c =
+    let r = c .before .before .before .before in
+    let i = r .before .before .before .before .loop .inv in
+    let kw = r .row .kept .1 .1 .1 .1 .1 .1 .0 in
+    let kp = r .row .kept .1 .1 .1 .1 .1 .1 .1 .0 in
+    (omega arith, room-kept kw kp (i .1), kw ∙ i .2, kp ∙ i .3, r .row .ensures)
+
+add-result : tie.Need-add-result Inv-loop μ-loop
+add-result c = search needs
+
+mul-result : tie.Need-mul-result Inv-loop μ-loop
+mul-result c = search needs
+
+slice-read-result : tie.Need-slice-read-result Inv-loop μ-loop
+slice-read-result c = search needs
+
+cast-result : tie.Need-cast-result Inv-loop μ-loop
+cast-result c =
+    let b = start (c .before .before) in
+    omega (arith, c .slice-known5 .given (2 * places (b .args .s) + b .args .s .ng))
+
+same-length : tie.Need-same-length Inv-loop μ-loop
+same-length c = c .before .before .loop .inv .2 ∙ simp length-set
+
+same-length-2 : tie.Need-same-length-2 Inv-loop μ-loop
+same-length-2 c = search needs
+
+returns : tie.Need-returns Inv-loop μ-loop
+returns c =
+    let l = c .before .before .loop in
+    let b = start (c .before .before) in
+    let e : l .g ≡ b .args .s .ng = omega (arith, l .inv .0) in
+    let u = rw e at (l .inv .4) in
+    rw (u .marks (b .args .s .ng) (omega arith)) (all-loaded (b .args .s) (b .args .grid .now) _ (l .w) (l .pf) (b .pre .0 .map .few) (b .pre .0 .symbols) (l .inv .1) u)
+
+pub load-spec : {M : Type 1} → statement M
+load-spec =
+    tie.close (tie.spec Inv-loop μ-loop mul-at mul-at-2 mul-w slice-write-w loop-holds row-requires add-g loop-less loop-again add-result mul-result slice-read-result cast-result same-length same-length-2 returns)

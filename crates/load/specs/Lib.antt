@@ -1,0 +1,6 @@
+pub mod Pilots
+pub mod Find
+pub mod Load
+pub mod Fit
+pub mod Work
+pub mod Laws

@@ -1,0 +1,9 @@
+-- Laws of the definitions, for the proofs here and in the crates above.
+pub mod Patterns
+pub mod Sorting
+pub mod Cut
+pub mod Places
+pub mod Gathered
+pub mod Selected
+pub mod Walks
+pub mod Independent

@@ -1,0 +1,4 @@
+pub mod Nearest
+pub mod Search
+pub mod Walk
+pub mod Own
