@@ -1,0 +1,11 @@
+pub mod Constants
+pub mod Chain
+pub mod Difference
+pub mod Bounds
+pub mod Top
+pub mod Same
+pub mod Sharing
+pub mod Sums
+pub mod Logarithm
+pub mod Finite
+pub mod Laws

@@ -1,0 +1,4 @@
+pub mod Demap
+pub mod Shared
+pub mod Decide
+pub mod Laws
