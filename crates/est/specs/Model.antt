@@ -1,6 +1,7 @@
 -- est.rs, `sinc` and `set_model`, line by line.
 use Prim.Native.Nat.{ℕ, _+_, _*_, _≤_}
 use mathlib.Core.Bool.{cond}
+use mathlib.Core.Path.{_≡_}
 use mathlib.Core.List.{List}
 use lib.Dec.{T}
 use lib.Ieee.{Float, lt, le, ne}
@@ -53,3 +54,9 @@ module _ (l : Numerology) where
   unfoldable pub scalesOf : Float → Float → Scales
   scalesOf fd tm =
       record { lc = narrowed (half ⊗ f64Of (l .n) ⊘ tm); lg = narrowed (minOf (half ⊘ doppler fd) (four ⊗ f64Of (l .gw))) ⊠ l .«est_lg» }
+
+-- what `set_model` leaves
+pub record SetModel (l : Numerology) (fd tm : Float) (rf rt : List Float) (r : Scales) : Type 0 where
+  pub along-carriers : rf ≡ rfOf l tm
+  pub along-symbols : rt ≡ rtOf l fd
+  pub scales : r ≡ scalesOf l fd tm

@@ -7,11 +7,9 @@ mod sums;
 mod weights;
 
 ghost use mathlib.Core.Path.{_≡_};
-ghost use Prim.Native.Nat.{_*_, _≤_, _<_};
 ghost use lib.ListN.{length};
-ghost use Rattle.load.specs.Pilots.{pilots, Loaded};
-ghost use Rattle.near.specs.Search.{Asked};
-ghost use Rattle.est.specs.Estimate.{heldK, combined, estimateExcl, estimateWithout, estimateAll};
+ghost use Rattle.load.specs.Pilots.{pilots};
+ghost use Rattle.est.specs.Estimate.{Held, Estimable, combined, estimateExcl, estimateWithout, estimateAll};
 ghost use Rattle.est.specs.Columns.{column, column3, Fetched};
 use column::column_f32;
 use column::column_u32;
@@ -27,7 +25,7 @@ use near::Window;
 
 // How many pilots an estimate may use, held to what there is room for.
 pub fn held_k(k: usize) -> usize
-    ensures { λ r. ⌜ (r ≡ heldK k) × (1 ≤ r) × (r ≤ 40) ⌝ }
+    ensures { λ r. ⌜ Held k r ⌝ }
 {
     if k < 1 {
         return 1;
@@ -89,7 +87,7 @@ pub fn estimate_excl(
     p_h: f32,
     x: usize,
 ) -> Estimate
-    requires { ⌜ Loaded (now pc) (now pg) (now pf) (now start) (w .nc) (w .ng) (length (now pc)) × Asked q w × (2 * w .nc < length (now rf)) × (4 * w .gw < length (now rt)) ⌝ }
+    requires { ⌜ Estimable (now pc) (now pg) (now pf) (now start) (now rf) (now rt) q w ⌝ }
     ensures { λ r. ⌜ r ≡ estimateExcl «p_h» (now (rf .entry)) (now (rt .entry)) q w (pilots (now (pc .entry)) (now (pg .entry)) (now (pf .entry)) (length (now (pc .entry)))) (now (start .entry)) x ⌝ }
 {
     let mut idx = [0u32; 40];
@@ -122,7 +120,7 @@ pub fn estimate_without(
     scale: f32,
     x: usize,
 ) -> Estimate
-    requires { ⌜ Loaded (now pc) (now pg) (now pf) (now start) (w .nc) (w .ng) (length (now pc)) × Asked q w × (2 * w .nc < length (now rf)) × (4 * w .gw < length (now rt)) ⌝ }
+    requires { ⌜ Estimable (now pc) (now pg) (now pf) (now start) (now rf) (now rt) q w ⌝ }
     ensures { λ r. ⌜ r ≡ estimateWithout «p_h» (now (rf .entry)) (now (rt .entry)) q w (pilots (now (pc .entry)) (now (pg .entry)) (now (pf .entry)) (length (now (pc .entry)))) (now (start .entry)) scale x ⌝ }
 {
     let e = estimate_excl(pc, pg, pf, start, rf, rt, q, w, p_h, x);
@@ -146,7 +144,7 @@ pub fn estimate(
     p_h: f32,
     scale: f32,
 ) -> Estimate
-    requires { ⌜ Loaded (now pc) (now pg) (now pf) (now start) (w .nc) (w .ng) (length (now pc)) × Asked q w × (2 * w .nc < length (now rf)) × (4 * w .gw < length (now rt)) ⌝ }
+    requires { ⌜ Estimable (now pc) (now pg) (now pf) (now start) (now rf) (now rt) q w ⌝ }
     ensures { λ r. ⌜ r ≡ estimateAll «p_h» (now (rf .entry)) (now (rt .entry)) q w (pilots (now (pc .entry)) (now (pg .entry)) (now (pf .entry)) (length (now (pc .entry)))) (now (start .entry)) scale ⌝ }
 {
     estimate_without(

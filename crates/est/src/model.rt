@@ -1,10 +1,11 @@
+// est.rs, sinc and set_model: the correlations of a channel and the scales of its neighbourhood.
 ghost use mathlib.Core.Path.{_≡_};
 ghost use Prim.Native.Nat.{_+_, _*_, _≤_};
 ghost use lib.ListN.{length};
 ghost use Rattle.ieee.specs.Num.{_⊗_};
 ghost use Rattle.elementary.specs.Domain.{InTurns};
 ghost use Rattle.est.specs.Constants.{pi};
-ghost use Rattle.est.specs.Model.{sinc, minOf, Modelled, doppler, rfOf, rtOf, scalesOf};
+ghost use Rattle.est.specs.Model.{sinc, minOf, Modelled, doppler, rfOf, rtOf, SetModel};
 
 // What a model takes of a layout: samples of a symbol and of its prefix, carriers, symbols to each side, and what shrinks the scale of time.
 pub struct Numerology {
@@ -78,7 +79,7 @@ fn rt_fill(l: Numerology, fd: f64, tm: f64, rt: &mut [f64])
 // Doppler fd (Hz, one-sided) and delay span tm (samples): the correlations along the carriers and along the symbols, and the scales.
 pub fn set_model(l: Numerology, fd: f64, tm: f64, rf: &mut [f64], rt: &mut [f64]) -> Scales
     requires { ⌜ Modelled l fd tm × (length (now rf) ≡ 2 * l .nc + 1) × (length (now rt) ≡ 4 * l .gw + 1) ⌝ }
-    ensures { λ r. ⌜ (now (rf .exit) ≡ rfOf l tm) × (now (rt .exit) ≡ rtOf l fd) × (r ≡ scalesOf l fd tm) ⌝ }
+    ensures { λ r. ⌜ SetModel l fd tm (now (rf .exit)) (now (rt .exit)) r ⌝ }
 {
     rf_fill(l, fd, tm, rf);
     rt_fill(l, fd, tm, rt);

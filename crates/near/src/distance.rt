@@ -1,3 +1,4 @@
+// Which pilots are skipped, how far the others are, and their order.
 ghost use mathlib.Core.Path.{_≡_};
 ghost use Prim.Native.Nat.{_<_};
 ghost use Rattle.near.specs.Search.{skippedAt, offset, distance, key};

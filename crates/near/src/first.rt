@@ -1,3 +1,4 @@
+// The candidates in their own order: how many, and the first k.
 ghost use mathlib.Core.Path.{_≡_};
 ghost use mathlib.Core.Bool.{cond};
 ghost use Prim.Native.Nat.{_+_, _<_, _≤_, _^_, min};

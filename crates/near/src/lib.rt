@@ -6,10 +6,10 @@ mod query;
 
 ghost use mathlib.Core.Path.{_≡_};
 ghost use Prim.Native.Nat.{_≤_, _<_};
-ghost use lib.ListN.{length, take, getD};
-ghost use Rattle.load.specs.Pilots.{pilots, Loaded};
+ghost use lib.ListN.{length, getD};
+ghost use Rattle.load.specs.Pilots.{pilots};
 ghost use Rattle.near.specs.Nearest.{nearest};
-ghost use Rattle.near.specs.Search.{Asked, gLo, gHi, indices};
+ghost use Rattle.near.specs.Search.{Searchable, Picked, gLo, gHi, indices};
 ghost use Rattle.near.specs.Walk.{Span, skips, keys, found};
 use first::gather;
 use nearest::select;
@@ -57,7 +57,7 @@ fn pick_in(
     idx: &mut [u32],
 ) -> usize
     requires { ⌜ Span q (now pc) (now pg) lo hi × (w .k ≤ 40) × (w .k ≤ length (now idx)) ⌝ }
-    ensures { λ r. ⌜ (r ≤ w .k) × (take r (now (idx .exit)) ≡ nearest (keys q (now (pc .entry)) (now (pg .entry))) (w .k) (found (skips q w x (now (pc .entry))) lo hi)) ⌝ }
+    ensures { λ r. ⌜ Picked r (now (idx .exit)) (nearest (keys q (now (pc .entry)) (now (pg .entry))) (w .k) (found (skips q w x (now (pc .entry))) lo hi)) (w .k) ⌝ }
 {
     let n = gather(pc, q, w, x, lo, hi, idx);
     if n <= w.k {
@@ -80,8 +80,8 @@ pub fn pick(
     x: usize,
     idx: &mut [u32],
 ) -> usize
-    requires { ⌜ Loaded (now pc) (now pg) (now pf) (now start) (w .nc) (w .ng) (length (now pc)) × Asked q w × (w .k ≤ length (now idx)) ⌝ }
-    ensures { λ r. ⌜ (r ≤ w .k) × (take r (now (idx .exit)) ≡ indices q w (pilots (now (pc .entry)) (now (pg .entry)) (now (pf .entry)) (length (now (pc .entry)))) (now (start .entry)) x) ⌝ }
+    requires { ⌜ Searchable (now pc) (now pg) (now pf) (now start) (now idx) q w ⌝ }
+    ensures { λ r. ⌜ Picked r (now (idx .exit)) (indices q w (pilots (now (pc .entry)) (now (pg .entry)) (now (pf .entry)) (length (now (pc .entry)))) (now (start .entry)) x) (w .k) ⌝ }
 {
     let lo = start_of(start, low(q, w));
     let hi = start_of(start, high(q, w));

@@ -1,3 +1,4 @@
+// The k nearest candidates, kept in order as the list is read.
 ghost use mathlib.Core.Path.{_≡_};
 ghost use mathlib.Core.Bool.{cond};
 ghost use mathlib.Core.List.{map};

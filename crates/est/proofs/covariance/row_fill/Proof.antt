@@ -59,7 +59,14 @@ cast-covary-2 : tie.Need-cast-covary-2 Inv-loop μ-loop
 cast-covary-2 c = omega (arith, c .shared-slice-known8 .given (c .before .before .before .loop .j))
 
 covary-requires : tie.Need-covary-requires Inv-loop μ-loop
-covary-requires c κs = let s = c .before .before .before .before .before .before .before .before .before .before .args in let p = c .before .before .before .before .before .before .before .before .before .before .pre .0 in let i = s .i in let j = c .before .before .before .loop .j in let h : i < length (s .cs .now) = omega arith in let k : j < length (s .cs .now) = omega arith in omega (arith, p .carrier i h, p .carrier j k, p .symbol i h, p .apart i j h k, p .apart j i k h)
+covary-requires c κs =
+    let s = c .before .before .before .before .before .before .before .before .before .before .args in
+    let p = c .before .before .before .before .before .before .before .before .before .before .pre .0 in
+    let i = s .i in
+    let j = c .before .before .before .loop .j in
+    let h : i < length (s .cs .now) = omega arith in
+    let k : j < length (s .cs .now) = omega arith in
+    omega (arith, p .carrier i h, p .carrier j k, p .symbol i h, p .apart i j h k, p .apart j i k h)
 
 put-requires : tie.Need-put-requires Inv-loop μ-loop
 put-requires c κs = search needs

@@ -39,14 +39,21 @@ loop-less : tie.Need-loop-less Inv-loop μ-loop
 loop-less c = search needs
 
 loop-again : tie.Need-loop-again Inv-loop μ-loop
-loop-again c = let l = c .before .before .before .before .before .before .loop in let s = c .before .before .before .before .before .before .before .before .before .args in let v = c .before .before .visit in (omega arith, omega arith, omega (arith, v .ensures .0, l .inv .2), v .kept .1 .1 .1 .1 .1 .0 ∙ l .inv .3, stored-next (skips (s .q) (s .w) (s .x) (s .pc .now)) _ _ _ (l .idx) _ (l .n) _ (omega arith) (l .inv .4) (v .ensures .1) (v .ensures .2))
+loop-again c =
+    let l = c .before .before .before .before .before .before .loop in
+    let s = c .before .before .before .before .before .before .before .before .before .args in
+    let v = c .before .before .visit in
+    (omega arith, omega arith, omega (arith, v .ensures .0, l .inv .2), v .kept .1 .1 .1 .1 .1 .0 ∙ l .inv .3, stored-next (skips (s .q) (s .w) (s .x) (s .pc .now)) _ _ _ (l .idx) _ (l .n) _ (omega arith) (l .inv .4) (v .ensures .1) (v .ensures .2))
 
 same-length : tie.Need-same-length Inv-loop μ-loop
 same-length c = search needs
 
 returns : tie.Need-returns Inv-loop μ-loop
 unfolding found
-returns c = let e : c .before .loop .i ≡ c .before .before .before .before .args .hi = omega arith in let s = rw e at (c .before .loop .inv .4) in (s .count, s .first)
+returns c =
+    let e : c .before .loop .i ≡ c .before .before .before .before .args .hi = omega arith in
+    let s = rw e at (c .before .loop .inv .4) in
+    (s .count, s .first)
 
 pub gather-spec : {M : Type 1} → statement M
 gather-spec =

@@ -24,7 +24,9 @@ same-length : tie.Need-same-length
 same-length c = search needs
 
 returns-2 : tie.Need-returns-2
-returns-2 c = let e = sym (c .before .before .before .before .before .before .before .skips .ensures) ∙ c .before .before .before .before .before .before .if1 .left in (omega (arith, c .before .before .insert-in .ensures .0), rw (e, ← (c .before .before .before .before .key-of .ensures), ← (c .before .before .before .pack-of .ensures)) (c .before .before .insert-in .ensures .1))
+returns-2 c =
+    let e = sym (c .before .before .before .before .before .before .before .skips .ensures) ∙ c .before .before .before .before .before .before .if1 .left in
+    (omega (arith, c .before .before .insert-in .ensures .0), rw (e, ← (c .before .before .before .before .key-of .ensures), ← (c .before .before .before .pack-of .ensures)) (c .before .before .insert-in .ensures .1))
 
 pub consider-spec : {M : Type 1} → statement M
 consider-spec =

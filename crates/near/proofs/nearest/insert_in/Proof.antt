@@ -19,7 +19,9 @@ same-length : tie.Need-same-length
 same-length c = search needs
 
 returns : tie.Need-returns
-returns c = let s = c .before .before .before .before .before .before .before .before .args in (omega arith, with-room keyIn (s .a .now) (c .before .before .put-at .last .0) (s .n) (s .k) (s .x) _ (omega arith) (c .before .before .before .before .before .place-of .ensures .1) (omega arith) (c .before .before .put-at .ensures))
+returns c =
+    let s = c .before .before .before .before .before .before .before .before .args in
+    (omega arith, with-room keyIn (s .a .now) (c .before .before .put-at .last .0) (s .n) (s .k) (s .x) _ (omega arith) (c .before .before .before .before .before .place-of .ensures .1) (omega arith) (c .before .before .put-at .ensures))
 
 sub-put-at : tie.Need-sub-put-at
 sub-put-at c = search needs
@@ -31,13 +33,17 @@ same-length-2 : tie.Need-same-length-2
 same-length-2 c = search needs
 
 returns-2 : tie.Need-returns-2
-returns-2 c = let s = c .before .before .before .before .before .before .before .before .before .args in (omega arith, no-room keyIn (s .a .now) (c .before .before .put-at2 .last .0) (s .n) (s .k) (s .x) _ (omega arith) (c .before .before .before .before .before .before .place-of .ensures .1) (omega arith) (omega arith) (c .before .before .put-at2 .ensures))
+returns-2 c =
+    let s = c .before .before .before .before .before .before .before .before .before .args in
+    (omega arith, no-room keyIn (s .a .now) (c .before .before .put-at2 .last .0) (s .n) (s .k) (s .x) _ (omega arith) (c .before .before .before .before .before .before .place-of .ensures .1) (omega arith) (omega arith) (c .before .before .put-at2 .ensures))
 
 same-length-3 : tie.Need-same-length-3
 same-length-3 c = search needs
 
 returns-3 : tie.Need-returns-3
-returns-3 c = let s = c .before .before .before .before .before .args in (omega arith, too-far keyIn (s .a .now) (s .a .now) (s .n) (s .k) (s .x) _ (omega arith) (c .before .before .place-of .ensures .1) (omega arith) (omega arith))
+returns-3 c =
+    let s = c .before .before .before .before .before .args in
+    (omega arith, too-far keyIn (s .a .now) (s .a .now) (s .n) (s .k) (s .x) _ (omega arith) (c .before .before .place-of .ensures .1) (omega arith) (omega arith))
 
 pub insert-in-spec : {M : Type 1} → statement M
 insert-in-spec =

@@ -34,7 +34,9 @@ loop-less : tie.Need-loop-less Inv-loop μ-loop
 loop-less c = search needs
 
 loop-again : tie.Need-loop-again Inv-loop μ-loop
-loop-again c = let a = c .before .before .before .before .args .a .now in (search needs, above-more keyIn a _ _ _ (search needs) (c .if1 .left) (c .before .before .before .loop .inv .1))
+loop-again c =
+    let a = c .before .before .before .before .args .a .now in
+    (search needs, above-more keyIn a _ _ _ (search needs) (c .if1 .left) (c .before .before .before .loop .inv .1))
 
 returns : tie.Need-returns Inv-loop μ-loop
 returns c = (search needs, rank-found _ _ _ _ _ (search needs) (c .before .before .pre .1) (search needs) (c .before .loop .inv .1) (λ h. absurd (omega arith)))

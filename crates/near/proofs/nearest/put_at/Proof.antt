@@ -50,7 +50,9 @@ same-length : tie.Need-same-length Inv-loop μ-loop
 same-length c = search needs
 
 returns : tie.Need-returns Inv-loop μ-loop
-returns c = let e : c .before .loop .j ≡ c .before .before .args .p = omega arith in moved-all _ _ _ _ _ (search needs) (search needs) (rw e at (c .before .loop .inv .2))
+returns c =
+    let e : c .before .loop .j ≡ c .before .before .args .p = omega arith in
+    moved-all _ _ _ _ _ (search needs) (search needs) (rw e at (c .before .loop .inv .2))
 
 pub put-at-spec : {M : Type 1} → statement M
 put-at-spec =

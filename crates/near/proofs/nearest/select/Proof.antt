@@ -41,7 +41,12 @@ cast-consider-2 : tie.Need-cast-consider-2 Inv-loop μ-loop
 cast-consider-2 c = omega (arith, c .shared-slice-known4 .given (c .before .before .before .loop .i))
 
 consider-requires : tie.Need-consider-requires Inv-loop μ-loop
-consider-requires c κs = let l = c .before .before .before .before .loop in let s = c .before .before .before .before .before .before .before .before .args in let p = c .before .before .before .before .before .before .before .before .pre .0 in let t = c .before .before .before .loop-test .taken in ((omega (arith, p .few), omega arith, omega arith, subst (Chain keyIn 0) (sym (l .inv .4)) (keep-chain (s .w .k) (skips (s .q) (s .w) (s .x) (s .pc .now)) (keys (s .q) (s .pc .now) (s .pg .now)) _ _)), (p .carrier (l .i) t, p .symbol (l .i) t, p .c, p .g))
+consider-requires c κs =
+    let l = c .before .before .before .before .loop in
+    let s = c .before .before .before .before .before .before .before .before .args in
+    let p = c .before .before .before .before .before .before .before .before .pre .0 in
+    let t = c .before .before .before .loop-test .taken in
+    ((omega (arith, p .few), omega arith, omega arith, subst (Chain keyIn 0) (sym (l .inv .4)) (keep-chain (s .w .k) (skips (s .q) (s .w) (s .x) (s .pc .now)) (keys (s .q) (s .pc .now) (s .pg .now)) _ _)), (p .carrier (l .i) t, p .symbol (l .i) t, p .c, p .g))
 
 add-i : tie.Need-add-i Inv-loop μ-loop
 add-i c = search needs
@@ -50,14 +55,19 @@ loop-less : tie.Need-loop-less Inv-loop μ-loop
 loop-less c = search needs
 
 loop-again : tie.Need-loop-again Inv-loop μ-loop
-loop-again c = let l = c .before .before .before .before .before .before .before .loop in let v = c .before .before .consider in (omega arith, omega arith, omega (arith, v .ensures .0), v .kept .1 .1 .1 .1 .1 .1 .0 ∙ l .inv .3, for-step _ _ _ _ _ _ (omega arith) (l .inv .4) (v .ensures .1))
+loop-again c =
+    let l = c .before .before .before .before .before .before .before .loop in
+    let v = c .before .before .consider in
+    (omega arith, omega arith, omega (arith, v .ensures .0), v .kept .1 .1 .1 .1 .1 .1 .0 ∙ l .inv .3, for-step _ _ _ _ _ _ (omega arith) (l .inv .4) (v .ensures .1))
 
 same-length : tie.Need-same-length Inv-loop μ-loop
 same-length c = search needs
 
 returns : tie.Need-returns Inv-loop μ-loop
 unfolding kept
-returns c = let e : c .before .loop .i ≡ c .before .before .before .before .before .args .hi = omega arith in (omega arith, rw e at (c .before .loop .inv .4))
+returns c =
+    let e : c .before .loop .i ≡ c .before .before .before .before .before .args .hi = omega arith in
+    (omega arith, rw e at (c .before .loop .inv .4))
 
 pub select-spec : {M : Type 1} → statement M
 select-spec =
