@@ -1,4 +1,4 @@
--- `gather`'s loop: n have been found, and the first k of them are stored.
+-- `gather`'s loop: n have been found, and the first k of them are stored. It ends with all, or with more than k.
 use Prim.Native.Nat.{ℕ, suc, _+_, _≤_, _<_, min}
 use mathlib.Core.Bool.{Bool, true, false, cond}
 use mathlib.Core.Path.{_≡_, refl, sym, ap, _∙_, subst}
@@ -6,12 +6,15 @@ use mathlib.Core.List.{List, [], _∷_, _++_}
 use native.Mathlib.Omega.{arith}
 use native.Mathlib.Decide.{decLt}
 use lib.Dec.{ltb}
-use lib.ListN.{length, take, set, length-set, length-append}
+use lib.ListN.{length, take, set, length-set, length-append, length-take}
 use lib.Seq.{take-all, take-nil, take-suc-set, take-append-le}
 use borrow.Author.Tests.{lt-ltb, le-ltb}
 use Rattle.seq.specs.Loop.{for}
 use Rattle.seq.specs.Loop.Laws.{for-none, for-next}
-use Rattle.near.specs.Walk.{push}
+use Rattle.near.specs.Nearest.{nearest}
+use Rattle.near.specs.Walk.{push, found, Gathered}
+use Rattle.near.proofs.Sorting.{nearest-few}
+use Rattle.near.proofs.Found.{found-join}
 
 pub record Stored (k : ℕ) (idx : List ℕ) (n : ℕ) (l : List ℕ) : Type 0 where
   pub long : k ≤ length idx
@@ -52,3 +55,25 @@ pub stored-next : (skip : ℕ → Bool) (k lo i : ℕ) (idx idx' : List ℕ) (n 
     → n' ≡ cond (skip i) n (n + 1) → idx' ≡ cond (skip i) idx (cond (ltb n k) (set idx n i) idx) → Stored k idx' n' (for lo (i + 1) (push skip) [])
 stored-next skip k lo i idx idx' n n' h s e e' =
     rw (for-next (push skip) lo i [] h, e, e') (stored-more (skip i) k idx n i (for lo i (push skip) []) s)
+
+-- at the loop's end, and where it stops before
+pub gathered-all : (k : ℕ) (skip : ℕ → Bool) (lo hi n : ℕ) (idx : List ℕ) → Stored k idx n (for lo hi (push skip) []) → Gathered k skip lo hi n idx
+unfolding found
+gathered-all k skip lo hi n idx s = record { few = few; many = λ h. omega (arith, s .count) }
+  where
+    few : n ≤ k → take n idx ≡ found skip lo hi
+    few h =
+        let m : min k n ≡ n = omega arith in
+        (rw m at (s .first)) ∙ take-all k (found skip lo hi) (omega (arith, s .count))
+
+pub gathered-many : (k : ℕ) (skip : ℕ → Bool) (lo i hi n : ℕ) (idx : List ℕ) → lo ≤ i → i ≤ hi → k < n → Stored k idx n (for lo i (push skip) []) → Gathered k skip lo hi n idx
+unfolding found
+gathered-many k skip lo i hi n idx h h' b s =
+    record { few = λ w. absurd (omega arith); many = λ w. omega (arith, s .count, ap length (found-join skip lo i hi h h'), length-append (found skip lo i) (found skip i hi)) }
+
+-- at most k are found
+pub few : (k : ℕ) (skip : ℕ → Bool) (key : ℕ → ℕ) (lo hi n : ℕ) (idx : List ℕ) → n ≤ k → Gathered k skip lo hi n idx → take n idx ≡ nearest key k (found skip lo hi)
+few k skip key lo hi n idx h g = g .few h ∙ sym (nearest-few key k (found skip lo hi) (fits (g .few h)))
+  where
+    fits : take n idx ≡ found skip lo hi → length (found skip lo hi) ≤ k
+    fits e = rw (← e) (omega (arith, length-take n idx))

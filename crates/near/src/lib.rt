@@ -2,7 +2,9 @@
 mod distance;
 mod first;
 mod nearest;
+mod ordered;
 mod query;
+mod tables;
 
 ghost use mathlib.Core.Path.{_≡_};
 ghost use Prim.Native.Nat.{_≤_, _<_};
@@ -45,18 +47,20 @@ fn start_of(start: &[u32], g: usize) -> usize
     s as usize
 }
 
-// The indices of lo..hi that are not skipped, or the k nearest of them.
+// The indices of lo..hi that are not skipped, or the k nearest of them. At mid the pilots of the cell's symbol start, and at lo those of symbol g.
 fn pick_in(
     pc: &[u32],
     pg: &[u32],
     q: Query,
     w: Window,
     x: usize,
+    g: usize,
     lo: usize,
+    mid: usize,
     hi: usize,
     idx: &mut [u32],
 ) -> usize
-    requires { ⌜ Span q (now pc) (now pg) lo hi × (w .k ≤ 40) × (w .k ≤ length (now idx)) ⌝ }
+    requires { ⌜ Span q w (now pc) (now pg) g lo mid hi × (1 ≤ w .k) × (w .k ≤ 40) × (w .k ≤ length (now idx)) ⌝ }
     ensures { λ r. ⌜ Picked r (now (idx .exit)) (nearest (keys q (now (pc .entry)) (now (pg .entry))) (w .k) (found (skips q w x (now (pc .entry))) lo hi)) (w .k) ⌝ }
 {
     let n = gather(pc, q, w, x, lo, hi, idx);
@@ -64,7 +68,7 @@ fn pick_in(
         return n;
     }
     let mut a = [0u64; 40];
-    let m = select(pc, pg, q, w, x, lo, hi, &mut a);
+    let m = select(pc, pg, q, w, x, g, lo, mid, hi, &mut a);
     unpack(&a, m, idx);
     m
 }
@@ -83,7 +87,9 @@ pub fn pick(
     requires { ⌜ Searchable (now pc) (now pg) (now pf) (now start) (now idx) q w ⌝ }
     ensures { λ r. ⌜ Picked r (now (idx .exit)) (indices q w (pilots (now (pc .entry)) (now (pg .entry)) (now (pf .entry)) (length (now (pc .entry)))) (now (start .entry)) x) (w .k) ⌝ }
 {
-    let lo = start_of(start, low(q, w));
+    let g = low(q, w);
+    let lo = start_of(start, g);
+    let mid = start_of(start, q.g);
     let hi = start_of(start, high(q, w));
-    pick_in(pc, pg, q, w, x, lo, hi, idx)
+    pick_in(pc, pg, q, w, x, g, lo, mid, hi, idx)
 }

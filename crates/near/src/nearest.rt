@@ -1,61 +1,22 @@
-// The k nearest candidates, kept in order as the list is read.
+// The k nearest candidates, kept in order as they are read: numbers that hold a key above an index.
 ghost use mathlib.Core.Path.{_≡_};
 ghost use mathlib.Core.Bool.{cond};
 ghost use mathlib.Core.List.{map};
-ghost use Prim.Native.Nat.{_+_, _<_, _≤_, _^_, min};
-ghost use lib.ListN.{length, take};
+ghost use Prim.Native.Nat.{_<_, _≤_, _^_};
+ghost use lib.Ieee.{nan};
+ghost use lib.ListN.{length, take, getD};
+ghost use Rattle.seq.specs.Loop.{for};
+ghost use Rattle.ieee.specs.Num.{_⊞_};
 ghost use Rattle.near.specs.Nearest.{insert};
-ghost use Rattle.near.specs.Search.{skippedAt, distance, key};
-ghost use Rattle.near.specs.Walk.{Span, skips, keys, pack, keyIn, indexIn, Chain, rank, slot, kept};
-use crate::distance::key_of;
+ghost use Rattle.near.specs.Search.{skippedAt, key};
+ghost use Rattle.near.specs.Walk.{Span, Reach, skips, keys, keysIn, pack, indexIn, same, Chain, keep, kept};
+use crate::distance::bits_of;
 use crate::distance::skips;
+use crate::ordered::insert_in;
 use crate::query::Query;
 use crate::query::Window;
-
-// Where x goes among the first n, found from behind: before the first that is greater.
-fn place_of(a: &[u64], n: usize, x: u64) -> usize
-    requires { ⌜ (n ≤ length (now a)) × Chain keyIn 0 (take n (now a)) ⌝ }
-    ensures { λ r. ⌜ (r ≤ n) × (r ≡ rank keyIn x (take n (now (a .entry)))) ⌝ }
-{
-    let v = x >> 32;
-    let mut p = n;
-    while 0 < p {
-        if a[p - 1] >> 32 <= v {
-            break;
-        }
-        p -= 1;
-    }
-    p
-}
-
-// x at p, and what stood from p up to m one further.
-fn put_at(a: &mut [u64], p: usize, m: usize, x: u64)
-    requires { ⌜ (p ≤ m) × (m < length (now a)) ⌝ }
-    ensures { λ _. ⌜ take (m + 1) (now (a .exit)) ≡ slot p x (take m (now (a .entry))) ⌝ }
-{
-    let mut j = m;
-    while p < j {
-        a[j] = a[j - 1];
-        j -= 1;
-    }
-    a[p] = x;
-}
-
-// The first n are the nearest so far, in order. x goes among them, and at most k stay.
-fn insert_in(a: &mut [u64], n: usize, k: usize, x: u64) -> usize
-    requires { ⌜ (n ≤ k) × (k ≤ length (now a)) × Chain keyIn 0 (take n (now a)) ⌝ }
-    ensures { λ r. ⌜ (r ≡ min k (n + 1)) × (take r (now (a .exit)) ≡ take k (insert keyIn x (take n (now (a .entry))))) ⌝ }
-{
-    let p = place_of(a, n, x);
-    if n < k {
-        put_at(a, p, n, x);
-        return n + 1;
-    }
-    if p < k {
-        put_at(a, p, k - 1, x);
-    }
-    k
-}
+use crate::tables::across_all;
+use crate::tables::along_all;
 
 fn pack_of(v: u32, i: usize) -> u64
     requires { ⌜ i < 2 ^ 32 ⌝ }
@@ -64,46 +25,76 @@ fn pack_of(v: u32, i: usize) -> u64
     (v as u64) * 4294967296 + (i as u64)
 }
 
-// One turn of `select`: i goes among the nearest unless it is skipped.
+// One turn of `walk`: i, at carrier c and j symbols on, goes among the nearest unless it is skipped.
 fn consider(
     c: usize,
-    g: usize,
+    j: usize,
     q: Query,
     w: Window,
     x: usize,
     i: usize,
+    tc: &[f32],
+    tg: &[f32],
     a: &mut [u64],
     n: usize,
 ) -> usize
-    requires { ⌜ (i < 2 ^ 32) × (w .k ≤ length (now a)) × (n ≤ w .k) × Chain keyIn 0 (take n (now a)) ⌝ }
-    requires { ⌜ (c < 65536) × (g < 65536) × (q .c < 65536) × (q .g < 65536) ⌝ }
-    ensures { λ r. ⌜ (r ≤ w .k) × (take r (now (a .exit)) ≡ cond (skippedAt q w x c i) (take n (now (a .entry))) (take (w .k) (insert keyIn (pack (key (distance q g c)) i) (take n (now (a .entry)))))) ⌝ }
+    requires { ⌜ (i < 2 ^ 32) × (1 ≤ w .k) × (w .k ≤ length (now a)) × (n ≤ w .k) × Chain same 0 (take n (now a)) ⌝ }
+    requires { ⌜ (c < length (now tc)) × (j < length (now tg)) ⌝ }
+    ensures { λ r. ⌜ (r ≤ w .k) × (take r (now (a .exit)) ≡ cond (skippedAt q w x c i) (take n (now (a .entry))) (take (w .k) (insert same (pack (key (getD (now (tc .entry)) c nan ⊞ getD (now (tg .entry)) j nan)) i) (take n (now (a .entry)))))) ⌝ }
 {
     if skips(c, q, w, i, x) {
         return n;
     }
-    insert_in(a, n, w.k, pack_of(key_of(q, g, c), i))
+    insert_in(a, n, w.k, pack_of(bits_of(tc[c] + tg[j]), i))
 }
 
-// The k nearest of lo..hi that are not skipped, each index with its key.
+// The indices of lo..hi that are not skipped go among the nearest.
+fn walk(
+    pc: &[u32],
+    pg: &[u32],
+    q: Query,
+    w: Window,
+    x: usize,
+    g: usize,
+    lo: usize,
+    hi: usize,
+    tc: &[f32],
+    tg: &[f32],
+    a: &mut [u64],
+    n: usize,
+) -> usize
+    requires { ⌜ Reach (now pc) (now pg) (now tc) (now tg) g lo hi × (1 ≤ w .k) × (w .k ≤ length (now a)) × (n ≤ w .k) × Chain same 0 (take n (now a)) ⌝ }
+    ensures { λ r. ⌜ (r ≤ w .k) × (take r (now (a .exit)) ≡ for lo hi (keep (w .k) (skips q w x (now (pc .entry))) (keysIn (now (tc .entry)) (now (tg .entry)) g (now (pc .entry)) (now (pg .entry)))) (take n (now (a .entry)))) ⌝ }
+{
+    let mut n = n;
+    for i in lo..hi {
+        n = consider(pc[i] as usize, pg[i] as usize - g, q, w, x, i, tc, tg, a, n);
+    }
+    n
+}
+
+// The k nearest of lo..hi that are not skipped, each index with its key. Those from mid on, of the cell's own symbol first, are read first: near ones found early let most others be passed over.
 pub fn select(
     pc: &[u32],
     pg: &[u32],
     q: Query,
     w: Window,
     x: usize,
+    g: usize,
     lo: usize,
+    mid: usize,
     hi: usize,
     a: &mut [u64],
 ) -> usize
-    requires { ⌜ Span q (now pc) (now pg) lo hi × (w .k ≤ length (now a)) ⌝ }
-    ensures { λ r. ⌜ (r ≤ w .k) × (take r (now (a .exit)) ≡ kept (w .k) (skips q w x (now (pc .entry))) (keys q (now (pc .entry)) (now (pg .entry))) lo hi) ⌝ }
+    requires { ⌜ Span q w (now pc) (now pg) g lo mid hi × (1 ≤ w .k) × (w .k ≤ length (now a)) ⌝ }
+    ensures { λ r. ⌜ (r ≤ w .k) × (take r (now (a .exit)) ≡ kept (w .k) (skips q w x (now (pc .entry))) (keys q (now (pc .entry)) (now (pg .entry))) lo mid hi) ⌝ }
 {
-    let mut n = 0;
-    for i in lo..hi {
-        n = consider(pc[i] as usize, pg[i] as usize, q, w, x, i, a, n);
-    }
-    n
+    let mut tc = [0f32; 109];
+    across_all(q, w.nc, &mut tc);
+    let mut tg = [0f32; 25];
+    along_all(q, g, 25, &mut tg);
+    let n = walk(pc, pg, q, w, x, g, mid, hi, &tc, &tg, a, 0);
+    walk(pc, pg, q, w, x, g, lo, mid, &tc, &tg, a, n)
 }
 
 pub fn unpack(a: &[u64], n: usize, idx: &mut [u32])

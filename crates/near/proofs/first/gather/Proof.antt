@@ -1,8 +1,8 @@
 -- `gather` meets its contract: each turn counts and stores one index unless it is skipped.
 use mathlib.Core.List.{[]}
 use Rattle.seq.specs.Loop.{for}
-use Rattle.near.specs.Walk.{skips, push, found}
-use Rattle.near.proofs.Gathered.{Stored, stored-none, stored-next}
+use Rattle.near.specs.Walk.{skips, push}
+use Rattle.near.proofs.Gathered.{Stored, stored-none, stored-next, gathered-all, gathered-many}
 use Prim.Native.Nat.{_≤_, _-_}
 use mathlib.Core.Path.{_≡_, refl, _∙_}
 use native.Mathlib.Omega.{arith}
@@ -27,7 +27,7 @@ shared-slice-read-visit : tie.Need-shared-slice-read-visit Inv-loop μ-loop
 shared-slice-read-visit c = search needs
 
 cast-visit : tie.Need-cast-visit Inv-loop μ-loop
-cast-visit c = omega (arith, c .shared-slice-known2 .given (c .before .before .loop .i))
+cast-visit c = omega (arith, c .shared-slice-known2 .given (c .before .before .before .before .loop .i))
 
 visit-requires : tie.Need-visit-requires Inv-loop μ-loop
 visit-requires c κs = search needs
@@ -40,8 +40,8 @@ loop-less c = search needs
 
 loop-again : tie.Need-loop-again Inv-loop μ-loop
 loop-again c =
-    let l = c .before .before .before .before .before .before .loop in
-    let s = c .before .before .before .before .before .before .before .before .before .args in
+    let l = c .before .before .before .before .before .before .before .before .loop in
+    let s = c .before .before .before .before .before .before .before .before .before .before .before .args in
     let v = c .before .before .visit in
     (omega arith, omega arith, omega (arith, v .ensures .0, l .inv .2), v .kept .1 .1 .1 .1 .1 .0 ∙ l .inv .3, stored-next (skips (s .q) (s .w) (s .x) (s .pc .now)) _ _ _ (l .idx) _ (l .n) _ (omega arith) (l .inv .4) (v .ensures .1) (v .ensures .2))
 
@@ -49,11 +49,18 @@ same-length : tie.Need-same-length Inv-loop μ-loop
 same-length c = search needs
 
 returns : tie.Need-returns Inv-loop μ-loop
-unfolding found
 returns c =
-    let e : c .before .loop .i ≡ c .before .before .before .before .args .hi = omega arith in
-    let s = rw e at (c .before .loop .inv .4) in
-    (s .count, s .first)
+    let s = c .before .before .before .before .args in
+    let e : c .before .loop .i ≡ s .hi = omega arith in
+    gathered-all (s .w .k) (skips (s .q) (s .w) (s .x) (s .pc .now)) (s .lo) (s .hi) _ _ (rw e at (c .before .loop .inv .4))
+
+same-length-2 : tie.Need-same-length-2 Inv-loop μ-loop
+same-length-2 c = search needs
+
+returns-2 : tie.Need-returns-2 Inv-loop μ-loop
+returns-2 c =
+    let s = c .before .before .before .before .before .before .args in
+    gathered-many (s .w .k) (skips (s .q) (s .w) (s .x) (s .pc .now)) (s .lo) (c .before .before .before .loop .i) (s .hi) _ _ (omega arith) (omega arith) (c .if1 .taken) (c .before .before .before .loop .inv .4)
 
 pub gather-spec : {M : Type 1} → statement M
 gather-spec =
@@ -70,4 +77,6 @@ gather-spec =
     loop-less
     loop-again
     same-length
-    returns)
+    returns
+    same-length-2
+    returns-2)
