@@ -113,6 +113,11 @@ pub length-inverse : (m : ℕ) (tw v : List Float) → length (inverseOf m tw v)
 unfolding inverseOf
 length-inverse m tw v = length-transform m tw true v
 
+-- what stands past the m numbers is not read
+pub forward-front : (m : ℕ) (tw v l : List Float) → length v ≡ 2 * m → forwardOf m tw (v ++ l) ≡ forwardOf m tw v
+unfolding forwardOf
+forward-front m tw v l h = transform-reads m tw false (v ++ l) v (λ j u. ap₂ complex (List·getD-append v l nan (2 * j) (omega arith)) (List·getD-append v l nan (2 * j + 1) (omega arith)))
+
 -- ---- the twiddle factors
 pub zeros-left : (n : ℕ) → n ≤ 218 → drop n (replicate 218 zero32) ≡ replicate (218 - n) zero32
 zeros-left n h =

@@ -1,4 +1,4 @@
--- What a proof uses of `cat`: nothing written yet, one stretch more, lengths, one part taken out, one element found.
+-- What a proof uses of `cat`: nothing written yet, one stretch more, all written, lengths, one part taken out, one element found.
 use Prim.Native.Nat.{ℕ, zero, suc, _+_, _-_, _*_, _≤_, _<_}
 use mathlib.Core.Path.{_≡_, refl, sym, ap, ap₂, _∙_}
 use mathlib.Core.List.{List, [], _++_, append-assoc, append-nil}
@@ -19,6 +19,10 @@ use Rattle.seq.specs.Cat.{cat}
 pub cat-none {ℓ} : {A : Type ℓ} (w : ℕ) (f : ℕ → List A) (l : List A) → l ≡ cat 0 f ++ drop (0 * w) l
 unfolding cat
 cat-none w f l = ap (λ (n : ℕ). drop n l) (sym (zero-mul w))
+
+-- or all of it
+pub cat-end {ℓ} : {A : Type ℓ} (w : ℕ) (f : ℕ → List A) (k n : ℕ) (l m : List A) → k ≤ n → n ≤ k → m ≡ cat k f ++ drop (k * w) l → m ≡ cat n f ++ drop (n * w) l
+cat-end w f k n l m h h' e = let q : k ≡ n = omega arith in rw q at e
 
 module _ {ℓ} {A : Type ℓ} (w : ℕ) (f : ℕ → List A) (h : (j : ℕ) → length (f j) ≡ w) where
   pub length-cat : (k : ℕ) → length (cat k f) ≡ k * w

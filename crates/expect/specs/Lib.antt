@@ -1,0 +1,2 @@
+pub mod Expect
+pub mod Contract
