@@ -15,6 +15,7 @@ use Rattle.seq.specs.Cat.Laws.{stretch}
 use Rattle.layout.specs.declared.map.Map.{Map}
 use Rattle.layout.specs.Maps.{isPilot, carriersAt}
 use Rattle.layout.specs.Known.{knownValue}
+use Rattle.layout.specs.Fit.{FitMap}
 use Rattle.layout.specs.Carriers.{dataCarrier, cellIndex, Cells}
 use Rattle.layout.proofs.Cells.{cells as cells-fit}
 use Rattle.load.specs.declared.found.Found.the-variants.{Known, Blank}
@@ -38,6 +39,25 @@ unfolding isPilot
 past-first m c zero h = absurd (omega (arith, ap {B = ℕ} (λ (b : Bool). cond b 0 1) h))
 past-first m c (suc g) h = omega arith
 
+-- a symbol past the header, whose data cells are dc
+module _ (s : Source) (map : FitMap (s .map)) (carriers : (g : ℕ) → s .map .«hdr_end» ≤ g → carriersAt (s .map) g ≡ s .dc) (g : ℕ) (low : s .map .«hdr_end» ≤ g) (from : 1 ≤ g) where
+  pub data-cells : Cells (s .map) g (s .dc)
+  data-cells = rw (carriers g low) at (cells-fit (s .map) map g from)
+
+  -- its data cell j is soft by its own expected value
+  pub soft-there : (cells expected : List Float) (j : ℕ) → j < s .dc → softAt s cells expected (dataCarrier (s .map) g j) g ≡ softCell s cells expected (cellOf s g j) Blank
+  unfolding softAt softStep
+  soft-there cells expected j h =
+      let r = data-cells in
+      let c = dataCarrier (s .map) g j in
+      let apart : (i : ℕ) → i < s .dc → (i ≡ j → ⊥) → dataCarrier (s .map) g i ≡ c → ⊥ =
+      λ i b d q. d (sym (r .index i b) ∙ (ap (cellIndex (s .map) g) q ∙ r .index j h)) in
+      let e : j + 1 + (s .dc - (j + 1)) ≡ s .dc = omega arith in
+      rw (le-ltb g (s .map .«hdr_end») low)
+      (rw e at (only (softStep s cells expected g c) Blank j (s .dc - (j + 1))
+      (λ i t b d. rw (ne-eqb (dataCarrier (s .map) g i) c (apart i (omega arith) d))))
+      ∙ rw (eq-eqb c c refl))
+
 module _ (s : Source) (sigma cells expected : List Float) where
   pub known-wins : (c g : ℕ) → isPilot (s .map) c g ≡ true → foundAt s sigma cells expected c g ≡ Known (knownValue (s .map) (s .boost) c g) (getD sigma c nan)
   unfolding foundAt
@@ -55,27 +75,17 @@ module _ (s : Source) (sigma cells expected : List Float) where
       mul-le-mul ng dc
 
   module _ (fit : FitSource s sigma cells expected) (g : ℕ) (low : s .map .«hdr_end» ≤ g) where
-    data-cells : 1 ≤ g → Cells (s .map) g (s .dc)
-    data-cells h = rw (fit .carriers g low) at (cells-fit (s .map) (fit .map) g h)
+    abbrev cells-at : 1 ≤ g → Cells (s .map) g (s .dc)
+    cells-at from = data-cells s (fit .map) (fit .carriers) g low from
 
-    soft-there : (j : ℕ) → 1 ≤ g → j < s .dc → softAt s cells expected (dataCarrier (s .map) g j) g ≡ softCell s cells expected (cellOf s g j) Blank
-    unfolding softAt softStep
-    soft-there j from h =
-        let r = data-cells from in
-        let c = dataCarrier (s .map) g j in
-        let apart : (i : ℕ) → i < s .dc → (i ≡ j → ⊥) → dataCarrier (s .map) g i ≡ c → ⊥ =
-        λ i b d q. d (sym (r .index i b) ∙ (ap (cellIndex (s .map) g) q ∙ r .index j h)) in
-        let e : j + 1 + (s .dc - (j + 1)) ≡ s .dc = omega arith in
-        rw (le-ltb g (s .map .«hdr_end») low)
-        (rw e at (only (softStep s cells expected g c) Blank j (s .dc - (j + 1))
-        (λ i t b d. rw (ne-eqb (dataCarrier (s .map) g i) c (apart i (omega arith) d))))
-        ∙ rw (eq-eqb c c refl))
+    abbrev soft-at : 1 ≤ g → (j : ℕ) → j < s .dc → softAt s cells expected (dataCarrier (s .map) g j) g ≡ softCell s cells expected (cellOf s g j) Blank
+    soft-at from = soft-there s (fit .map) (fit .carriers) g low from cells expected
 
     module _ (c : ℕ) (within : c < s .map .nc) (free : isPilot (s .map) c g ≡ false) where
       soft-counted : softAt s cells expected c g ≡ softCell s cells expected (cellOf s g (cellIndex (s .map) g c)) Blank
       soft-counted =
-          let r = data-cells (past-first (s .map) c g free) in
-          rw (r .carrier c within free) at (soft-there (cellIndex (s .map) g c) (past-first (s .map) c g free) (r .below c within free))
+          let r = cells-at (past-first (s .map) c g free) in
+          rw (r .carrier c within free) at (soft-at (past-first (s .map) c g free) (cellIndex (s .map) g c) (r .below c within free))
 
       pub found-free : foundAt s sigma cells expected c g ≡ softCell s cells expected (cellOf s g (cellIndex (s .map) g c)) Blank
       unfolding foundAt
@@ -83,12 +93,12 @@ module _ (s : Source) (sigma cells expected : List Float) where
 
       pub cell-below : g < s .ng → cellOf s g (cellIndex (s .map) g c) < ncell s
       cell-below h =
-          omega (arith, data-cells (past-first (s .map) c g free) .below c within free, stretch (g - s .map .«hdr_end») (s .ng - s .map .«hdr_end») (s .dc) (ncell s) (omega arith) (omega arith))
+          omega (arith, cells-at (past-first (s .map) c g free) .below c within free, stretch (g - s .map .«hdr_end») (s .ng - s .map .«hdr_end») (s .dc) (ncell s) (omega arith) (omega arith))
 
     -- data cell j of symbol g
     pub found-data : (j : ℕ) → 1 ≤ g → j < s .dc → foundAt s sigma cells expected (dataCarrier (s .map) g j) g ≡ softCell s cells expected (cellOf s g j) Blank
     unfolding foundAt
-    found-data j from h = rw (data-cells from .free j h) (soft-there j from h)
+    found-data j from h = rw (cells-at from .free j h) (soft-at from j h)
 
   pub counted : FitSource s sigma cells expected → (c g : ℕ) → c < s .map .nc → foundAt s sigma cells expected c g ≡ foundCounted s sigma cells expected c g
   unfolding foundAt foundCounted softAt softCounted

@@ -1,0 +1,4 @@
+pub mod Cells
+pub mod Judge
+pub mod Fit
+pub mod Upto
