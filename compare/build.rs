@@ -36,13 +36,16 @@ fn source_folder() -> PathBuf {
     path_from("ION_HF_SRC", "../../shared/docs/src")
 }
 
+/// An archive has the functions that its own crate exports, and not those of the crates below.
 fn link_probes() {
     let folder = path_from("PROBES_DIR", "../target/staticlib");
-    let library = folder.join("libprobes.a");
-    println!("cargo::rerun-if-changed={}", library.display());
-    assert!(library.is_file(), "no {}: run `rt staticlib probes` first", library.display());
     println!("cargo::rustc-link-search=native={}", folder.display());
-    println!("cargo::rustc-link-lib=static=probes");
+    for name in ["probes", "bursts"] {
+        let library = folder.join(format!("lib{name}.a"));
+        println!("cargo::rerun-if-changed={}", library.display());
+        assert!(library.is_file(), "no {}: run `rt staticlib {name}` first", library.display());
+        println!("cargo::rustc-link-lib=static={name}");
+    }
 }
 
 fn write_oracle(source: &Path) {

@@ -89,10 +89,19 @@ const IN_EST: &[Change] = &[
         "crate::standins::keep_nearest(&mut self.cand, k);",
         1,
     ),
-    // The chosen model's indices: the values alone don't tell the fallback from 2 2.
-    change("    pub model: (f64, f64),", "    pub model: (f64, f64),\n    pub index: (usize, usize),", 1),
-    change("model: default_model(l),", "model: default_model(l),\n            index: (3, 3),", 1),
-    change("let mut best = (", "self.index = (3, 3);\n        let mut best = (", 1),
+    // The chosen model's indices, since the values alone don't tell the fallback from 2 2, and the residual of each model tried.
+    change(
+        "    pub model: (f64, f64),",
+        "    pub model: (f64, f64),\n    pub index: (usize, usize),\n    pub residuals: Vec<f64>,",
+        1,
+    ),
+    change(
+        "model: default_model(l),",
+        "model: default_model(l),\n            index: (3, 3),\n            residuals: Vec::new(),",
+        1,
+    ),
+    change("let mut best = (", "self.index = (3, 3);\n        self.residuals.clear();\n        let mut best = (", 1),
+    change("if r < best.0 {", "self.residuals.push(r);\n                if r < best.0 {", 1),
     change(
         "best = (r, (fd, tm), scale);",
         "best = (r, (fd, tm), scale);\n                    self.index = (place(fd, fd_grid), place(tm, &l.tm));",

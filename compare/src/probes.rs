@@ -3,6 +3,8 @@
 
 pub mod cells;
 pub mod constellations;
+pub mod estimates;
+pub mod likelihoods;
 pub mod pilots;
 pub mod spreading;
 

@@ -2,7 +2,10 @@
 //! least of several rounds. Neither is inlined: a probe is in a library of its own, the other
 //! is called through a pointer that the compiler can't see through.
 
+mod beside;
 mod burst;
+mod estimates;
+mod likelihoods;
 mod rows;
 
 use std::hint::black_box;
@@ -19,6 +22,9 @@ pub fn print() {
     println!("{:<16} {:>10} {:>10} {:>7}", "ns a call", "ours", "theirs", "ratio");
     rows::print();
     burst::print();
+    beside::heading();
+    estimates::print();
+    likelihoods::print();
 }
 
 fn arguments<A>(make: impl FnMut(&mut Rng) -> A) -> Vec<A> {

@@ -1,13 +1,17 @@
 //! The comparison, one file a group. A new group is a file here and a line in `ALL`.
 
 pub mod burst_lengths;
+pub mod bursts;
 mod choices;
+mod estimates;
 mod exponential;
 mod gain;
 mod known;
 mod layouts;
+mod likelihoods;
 mod logarithms;
 mod mix;
+mod models;
 mod narrow;
 mod pilots;
 mod points;
@@ -53,6 +57,9 @@ const ALL: &[fn() -> Tally] = &[
     softness::compare_loud,
     spreading::compare,
     pilots::compare,
+    estimates::compare,
+    models::compare,
+    likelihoods::compare,
 ];
 
 /// Runs every group, two at a time, and answers them in their order.

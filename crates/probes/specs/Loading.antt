@@ -2,6 +2,7 @@
 use Prim.Native.Nat.{ℕ, _*_, _≤_}
 use mathlib.Core.Path.{_≡_}
 use mathlib.Core.Bool.{Bool}
+use mathlib.Core.Logic.{_⊎_}
 use mathlib.Core.List.{List}
 use lib.ListN.{length}
 use lib.Ieee.{Float}
@@ -32,3 +33,4 @@ pub record Lent (nsym : ℕ) (s : Source) (grid sigma cells expected : List Floa
 pub record Loading (nsym : ℕ) (s : Source) (grid sigma cells expected : List Float) (w₀ : List ℕ) (pf₀ : List Float) (w : List ℕ) (pf : List Float) (r : ℕ) : Type 0 where
   pub loads : Lent nsym s grid sigma cells expected w₀ pf₀ → Loads s grid (foundAt s sigma cells expected) w pf r
   pub short : (Lent nsym s grid sigma cells expected w₀ pf₀ → ⊥) → (r ≡ 0) × (w ≡ w₀) × (pf ≡ pf₀)
+  pub either : (r ≡ 0) ⊎ Lent nsym s grid sigma cells expected w₀ pf₀

@@ -64,7 +64,8 @@ pub extern "C" fn probe_soft_point(code: u32, gain: f32, llr: &[f32], out: &mut 
     }
     let pts = t.pts;
     let scaled = points::scaled(&pts, gain);
-    put3(out, soft::soft_point(llr, &scaled, t.bps));
+    let s = soft::soft_point(llr, &scaled, t.bps);
+    put3(out, s.mean, s.var);
     1
 }
 
@@ -87,7 +88,8 @@ pub extern "C" fn probe_soft_point_of(
     if out.len() < 3 {
         return 0;
     }
-    put3(out, soft::soft_point(llr, pts, bps));
+    let s = soft::soft_point(llr, pts, bps);
+    put3(out, s.mean, s.var);
     1
 }
 

@@ -2,6 +2,7 @@
 mod cells;
 mod constellations;
 mod functions;
+mod likelihoods;
 mod lists;
 mod numbers;
 mod pilots;
@@ -25,6 +26,9 @@ pub use functions::probe_gain;
 pub use functions::probe_ln;
 pub use functions::probe_ln_1p;
 pub use functions::probe_sin;
+pub use likelihoods::probe_decide;
+pub use likelihoods::probe_demap;
+pub use lists::put3;
 pub use numbers::probe_abs64;
 pub use numbers::probe_clamp32;
 pub use numbers::probe_clamp64;

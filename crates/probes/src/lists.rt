@@ -1,12 +1,10 @@
 // Answers of several numbers, put in front of a lent list.
 ghost use mathlib.Core.Path.{_≡_};
-ghost use mathlib.Core.List.{_++_};
+ghost use mathlib.Core.List.{[], _∷_, _++_};
 ghost use Prim.Native.Nat.{_≤_};
 ghost use lib.ListN.{length, drop};
 ghost use Rattle.spread.specs.Flat.{flat};
-ghost use Rattle.probes.specs.Within.{flatSoft};
 use dsp::Complex;
-use soft::Soft;
 
 pub fn put2(out: &mut [f32], z: Complex)
     requires { ⌜ 2 ≤ length (now out) ⌝ }
@@ -16,14 +14,13 @@ pub fn put2(out: &mut [f32], z: Complex)
     out[1] = z.im;
 }
 
-pub fn put3(out: &mut [f32], s: Soft)
+pub fn put3(out: &mut [f32], z: Complex, x: f32)
     requires { ⌜ 3 ≤ length (now out) ⌝ }
-    ensures { λ _. ⌜ now (out .exit) ≡ flatSoft s ++ drop 3 (now (out .entry)) ⌝ }
+    ensures { λ _. ⌜ now (out .exit) ≡ (z .re ∷ z .im ∷ x ∷ []) ++ drop 3 (now (out .entry)) ⌝ }
 {
-    let mean = s.mean;
-    out[0] = mean.re;
-    out[1] = mean.im;
-    out[2] = s.var;
+    out[0] = z.re;
+    out[1] = z.im;
+    out[2] = x;
 }
 
 pub fn put128(out: &mut [f32], v: &[f32; 128])

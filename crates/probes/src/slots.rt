@@ -1,9 +1,8 @@
 // bits: what has no answer gives 0, and a list that does not fit is left as it was.
 ghost use mathlib.Core.Path.{_≡_};
 ghost use mathlib.Core.Bool.{cond, _&&_};
-ghost use mathlib.Core.List.{_++_};
 ghost use lib.Dec.{leb, ltb};
-ghost use lib.ListN.{length, drop};
+ghost use lib.ListN.{length};
 ghost use Rattle.bits.specs.Mix.{mixOf, scrambleOf};
 ghost use Rattle.bits.specs.Step.{stepOf};
 ghost use Rattle.bits.specs.Slots.{longest, slotOf, slotPriors, bitOrder};

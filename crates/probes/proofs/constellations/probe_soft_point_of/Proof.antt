@@ -34,7 +34,7 @@ same-length c = search needs
 returns-4 : tie.Need-returns-4
 returns-4 c =
     let a = c .before .before .before .before .before .before .before .before .before .before .args in
-    all-put _ _ _ _ _ (rw (le-leb (a .bps) 6 (omega arith), le-leb (a .bps) (length (a .llr .now)) (omega arith), le-leb 3 (length (a .out .now)) (omega arith))) (rw (c .before .before .before .soft-point .ensures) at (c .before .before .put3 .ensures))
+    all-put _ _ _ _ _ (rw (le-leb (a .bps) 6 (omega arith), le-leb (a .bps) (length (a .llr .now)) (omega arith), le-leb 3 (length (a .out .now)) (omega arith))) (rw (c .before .before .before .before .soft-point .ensures) at (c .before .before .put3 .ensures))
 
 pub probe-soft-point-of-spec : {M : Type 1} → statement M
 probe-soft-point-of-spec = tie.close (tie.spec returns returns-2 returns-3 soft-point-requires put3-requires same-length returns-4)

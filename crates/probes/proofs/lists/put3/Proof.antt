@@ -19,7 +19,7 @@ same-length : tie.Need-same-length
 same-length c = search needs
 
 returns : tie.Need-returns
-returns c = three (c .before .args .out .now) _ _ _ (c .before .pre)
+returns c = three (c .args .out .now) _ _ _ (c .pre)
 
 pub put3-spec : {M : Type 1} → statement M
 put3-spec = tie.close (tie.spec slice-write-out slice-write-out-2 slice-write-out-3 same-length returns)

@@ -1,5 +1,4 @@
 -- `probes::probe_load` meets its contract: each test is for one list that may be too short.
-use Prim.Native.Nat.{_≤_}
 use native.Mathlib.Omega.{arith}
 use borrow.Author.Needs.{needs}
 use Rattle.probes.proofs.Loadings.{refused, taken}

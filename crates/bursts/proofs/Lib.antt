@@ -1,0 +1,4 @@
+pub mod Worked
+pub mod Rests
+pub mod OwnPilot
+pub mod Answers

@@ -1,0 +1,18 @@
+-- The part of a list from a place to its end, lent and given back.
+use Prim.Native.Nat.{ℕ, _+_, _-_, _≤_}
+use mathlib.Core.Path.{_≡_}
+use mathlib.Core.List.{List, _++_, append-nil}
+use native.Mathlib.Omega.{arith}
+use lib.ListN.{length, take, drop, length-drop, drop-of-length-le}
+use lib.Seq.{take-all}
+
+module _ {A : Type 0} (a : ℕ) (l : List A) where
+  pub rest : take (length l - a) (drop a l) ≡ drop a l
+  rest = take-all (length l - a) (drop a l) (omega (arith, length-drop a l))
+
+  pub rest-room : (n : ℕ) → a + n ≤ length l → n ≤ length (take (length l - a) (drop a l))
+  rest-room n h = rw rest (omega (arith, length-drop a l))
+
+  -- n elements put in front of it
+  pub rest-put : (n : ℕ) (xs ys : List A) → ys ≡ xs ++ drop n (take (length l - a) (drop a l)) → take a l ++ (ys ++ drop (length l - a) (drop a l)) ≡ take a l ++ (xs ++ drop n (drop a l))
+  rest-put n xs ys e = rw (e, rest, drop-of-length-le (drop a l) {i = length l - a} (omega (arith, length-drop a l)), append-nil)

@@ -1,0 +1,3 @@
+pub mod Pilots
+pub mod Estimating
+pub mod Modelling
