@@ -1,0 +1,12 @@
+mod Exact
+mod Hearing
+mod EachSymbol
+mod Sliced
+mod Ready
+mod Joined
+pub mod Blanked
+pub mod Ordered
+pub mod OwnPriors
+pub mod Elsewhere
+pub mod WithoutOwn
+pub mod Independence
