@@ -6,6 +6,7 @@ pub mod constellations;
 pub mod estimates;
 pub mod likelihoods;
 pub mod pilots;
+pub mod refinements;
 pub mod spreading;
 
 unsafe extern "C" {

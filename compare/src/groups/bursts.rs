@@ -40,13 +40,18 @@ impl Asked {
 pub fn burst(rng: &mut Rng, layout: usize, kind: usize, nsym: u16) -> Burst {
     let mut b = Burst::plain(layout, (kind % 4) as u8, nsym);
     (b.sparse, b.spread) = (kind & 1 != 0, kind & 8 != 0);
+    fill(rng, &mut b, kind % 3 == 2);
+    b
+}
+
+/// Numbers for a burst whose shape is settled: usual ones, or some as far as they go.
+pub fn fill(rng: &mut Rng, b: &mut Burst, extreme: bool) {
     b.cell_variances = vec![0.0; b.cells()];
     b.gain_code = rng.between(0, 4) as u8;
     b.k = rng.between(1, 41) as usize;
     (b.boost, b.pilot_gain) = (rng.pick(&[1.0, 0.125, 8.0, 1.3]), rng.pick(&[1.0, 0.125, 8.0, 0.77]));
     let sure = rng.pick(&[0.0, 1.0, 8.0, 60.0]);
     b.prior = (0..b.bits()).map(|_| (sure * (2.0 * rng.unit() - 1.0)) as f32).collect();
-    let extreme = kind % 3 == 2;
     b.p_h = if extreme { rng.pick(&[1e-38, 1e-30, 3e38, f32::MAX, 1.0]) } else { rng.pick(&[1.0, 1e-3, 40.0]) };
     let variance = |rng: &mut Rng| match (extreme, rng.bits32() % 8) {
         (true, 0) => rng.pick(&[0.0, f32::from_bits(1), 1e-38, f32::MAX]),
@@ -60,5 +65,4 @@ pub fn burst(rng: &mut Rng, layout: usize, kind: usize, nsym: u16) -> Burst {
             *y = rng.pick(&[f32::MAX, -f32::MAX, f32::from_bits(1), 1e-38, -0.0, 1e30]);
         }
     }
-    b
 }

@@ -2,6 +2,7 @@
 
 pub mod burst_lengths;
 pub mod bursts;
+mod causes;
 mod choices;
 mod estimates;
 mod exponential;
@@ -15,6 +16,7 @@ mod models;
 mod narrow;
 mod pilots;
 mod points;
+mod refinements;
 mod roots;
 mod slot_lists;
 mod slots;
@@ -60,6 +62,8 @@ const ALL: &[fn() -> Tally] = &[
     estimates::compare,
     models::compare,
     likelihoods::compare,
+    refinements::compare,
+    causes::compare,
 ];
 
 /// Runs every group, two at a time, and answers them in their order.

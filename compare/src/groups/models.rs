@@ -21,7 +21,7 @@ pub fn compare() -> Tally {
 }
 
 /// A burst that no model fits, and one whose scale is not a number.
-fn found() -> [Burst; 2] {
+pub fn found() -> [Burst; 2] {
     let (mut none, mut nan) = (Burst::plain(7, 0, 1), Burst::plain(7, 0, 1));
     none.grid[0] = f32::MAX;
     (nan.k, nan.boost, nan.pilot_gain, nan.p_h) = (1, 0.125, 0.75, f32::MAX);

@@ -1,3 +1,4 @@
 pub mod Pilots
 pub mod Estimating
 pub mod Modelling
+pub mod Refinements
