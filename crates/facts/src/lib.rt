@@ -1,0 +1,1 @@
+// Definitions and facts only: document 01's worked cases.

@@ -1,0 +1,10 @@
+pub mod Bytes
+pub mod Record
+pub mod Sizes
+pub mod Layout
+pub mod Refusals
+pub mod Table
+pub mod Examples
+pub mod Answer
+pub mod Judging
+pub mod Independence
