@@ -10,6 +10,8 @@ use std::env;
 use std::fs;
 use std::path::{Path, PathBuf};
 
+use text::Made;
+
 fn main() {
     println!("cargo::rerun-if-changed=build.rs");
     println!("cargo::rerun-if-changed=build");
@@ -40,7 +42,7 @@ fn source_folder() -> PathBuf {
 fn link_probes() {
     let folder = path_from("PROBES_DIR", "../target/staticlib");
     println!("cargo::rustc-link-search=native={}", folder.display());
-    for name in ["probes", "bursts"] {
+    for name in ["record", "probes", "bursts", "headers"] {
         let library = folder.join(format!("lib{name}.a"));
         println!("cargo::rerun-if-changed={}", library.display());
         assert!(library.is_file(), "no {}: run `rt staticlib {name}` first", library.display());
@@ -50,10 +52,14 @@ fn link_probes() {
 
 fn write_oracle(source: &Path) {
     let out = PathBuf::from(env::var_os("OUT_DIR").unwrap());
+    let published = out.join("published");
+    fs::create_dir_all(&published).unwrap();
     for part in changes::PARTS {
         let path = source.join(part.file);
         let whole = fs::read_to_string(&path).unwrap_or_else(|e| panic!("{}: {e}", path.display()));
-        let made = text::make(part, &whole).unwrap_or_else(|why| panic!("{}: {why}", part.file));
-        fs::write(out.join(part.name), made).unwrap();
+        for (made, folder) in [(Made::Oracle, &out), (Made::Published, &published)] {
+            let text = text::make(part, &whole, made).unwrap_or_else(|why| panic!("{}: {why}", part.file));
+            fs::write(folder.join(part.name), text).unwrap();
+        }
     }
 }

@@ -2,7 +2,7 @@
 //! document 01's stand-ins for library functions, its order of equal distances, settings from
 //! the caller, what refine hands out besides, and private items made public.
 
-use crate::text::{Change, Part, change, part};
+use crate::text::{Change, Part, change, oracle_only, part};
 
 const REFINE: &str = "crates/ion/src/phy/rx/refine.rs";
 
@@ -61,15 +61,20 @@ pub const PARTS: &[Part] = &[
     },
 ];
 
-const COMPLEX: Change =
-    change("use ion_dsp::dsp::Complex;", "use crate::oracle::dsp::Complex;\nuse crate::oracle::methods::*;", 1);
+const COMPLEX: Change = change("use ion_dsp::dsp::Complex;", "use crate::oracle::dsp::Complex;", 1);
+const METHODS: Change = oracle_only(
+    "use crate::oracle::dsp::Complex;",
+    "use crate::oracle::dsp::Complex;\nuse crate::oracle::methods::*;",
+    1,
+);
 
 const IN_FRAME: &[Change] = &[
     COMPLEX,
+    METHODS,
     change("mod header;", "mod header { include!(concat!(env!(\"OUT_DIR\"), \"/header.rs\")); }", 1),
-    change(".sin()", ".standin_sin()", 4),
-    change(".cos()", ".standin_cos()", 4),
-    change("10f32.powf(self.gain_db() / 20.0)", "crate::standins::gain(self.gain_code as u32)", 1),
+    oracle_only(".sin()", ".standin_sin()", 4),
+    oracle_only(".cos()", ".standin_cos()", 4),
+    oracle_only("10f32.powf(self.gain_db() / 20.0)", "crate::standins::gain(self.gain_code as u32)", 1),
     // The caller's boost travels with the map.
     change("    pub gain: f32,\n}", "    pub gain: f32,\n    pub boost: f32,\n}", 1),
     change("gain: 1.0,\n", "gain: 1.0,\n            boost: 1.0,\n", 1),
@@ -79,30 +84,35 @@ const IN_FRAME: &[Change] = &[
 
 const IN_EST: &[Change] = &[
     COMPLEX,
-    change(".sin()", ".standin_sin()", 1),
-    change(".exp()", ".standin_exp()", 2),
-    change(".ln()", ".standin_ln()", 3),
-    change(".powi(2)", ".standin_square()", 1),
-    change(".max(", ".standin_max(", 15),
-    change(
+    METHODS,
+    oracle_only(".sin()", ".standin_sin()", 1),
+    oracle_only(".exp()", ".standin_exp()", 2),
+    oracle_only(".ln()", ".standin_ln()", 3),
+    oracle_only(".powi(2)", ".standin_square()", 1),
+    oracle_only(".max(", ".standin_max(", 15),
+    oracle_only(
         "self.cand.select_nth_unstable_by(k - 1, |a, b| a.0.total_cmp(&b.0));",
         "crate::standins::keep_nearest(&mut self.cand, k);",
         1,
     ),
     // The chosen model's indices, since the values alone don't tell the fallback from 2 2, and the residual of each model tried.
-    change(
+    oracle_only(
         "    pub model: (f64, f64),",
         "    pub model: (f64, f64),\n    pub index: (usize, usize),\n    pub residuals: Vec<f64>,",
         1,
     ),
-    change(
+    oracle_only(
         "model: default_model(l),",
         "model: default_model(l),\n            index: (3, 3),\n            residuals: Vec::new(),",
         1,
     ),
-    change("let mut best = (", "self.index = (3, 3);\n        self.residuals.clear();\n        let mut best = (", 1),
-    change("if r < best.0 {", "self.residuals.push(r);\n                if r < best.0 {", 1),
-    change(
+    oracle_only(
+        "let mut best = (",
+        "self.index = (3, 3);\n        self.residuals.clear();\n        let mut best = (",
+        1,
+    ),
+    oracle_only("if r < best.0 {", "self.residuals.push(r);\n                if r < best.0 {", 1),
+    oracle_only(
         "best = (r, (fd, tm), scale);",
         "best = (r, (fd, tm), scale);\n                    self.index = (place(fd, fd_grid), place(tm, &l.tm));",
         1,
@@ -116,16 +126,17 @@ const IN_EST: &[Change] = &[
 
 const IN_REFINE: &[Change] = &[
     COMPLEX,
+    METHODS,
     change("use crate::phy::", "use crate::oracle::phy::", 3),
-    change(".exp()", ".standin_exp()", 3),
-    change(".ln_1p()", ".standin_ln_1p()", 2),
-    change(".max(", ".standin_max(", 4),
+    oracle_only(".exp()", ".standin_exp()", 3),
+    oracle_only(".ln_1p()", ".standin_ln_1p()", 2),
+    oracle_only(".max(", ".standin_max(", 4),
     // Besides the likelihoods: the estimator as it ended, and the channel list.
-    change("k: usize) -> Vec<f32> {", "k: usize) -> crate::oracle::Refined {", 1),
-    change("        (0..nbits)\n", "        let llrs = (0..nbits)\n", 1),
-    change(
+    oracle_only("k: usize) -> Vec<f32> {", "k: usize) -> crate::oracle::Refined {", 1),
+    oracle_only("        (0..nbits)\n", "        let llrs = (0..nbits)\n", 1),
+    oracle_only(
         "            .collect()\n    }\n}",
-        "            .collect();\n        crate::oracle::Refined::new(llrs, est, &hbuf, &mbuf)\n    }\n}",
+        "            .collect();\n        crate::oracle::Refined::new(llrs, est, hbuf, mbuf)\n    }\n}",
         1,
     ),
     change("pub(super) fn new(", "pub fn new(", 1),

@@ -17,6 +17,17 @@ pub struct Change {
     pub old: &'static str,
     pub new: &'static str,
     pub count: usize,
+    /// Not made in the program as published.
+    pub oracle_only: bool,
+}
+
+/// The two programs that are made of the source.
+#[derive(Clone, Copy, PartialEq)]
+pub enum Made {
+    /// With document 01's stand-ins, and handing out what is compared.
+    Oracle,
+    /// With its own library functions, for timing. Its modules stand under `published`.
+    Published,
 }
 
 pub const fn part(
@@ -29,15 +40,23 @@ pub const fn part(
 }
 
 pub const fn change(old: &'static str, new: &'static str, count: usize) -> Change {
-    Change { old, new, count }
+    Change { old, new, count, oracle_only: false }
 }
 
-pub fn make(part: &Part, whole: &str) -> Result<String, String> {
+pub const fn oracle_only(old: &'static str, new: &'static str, count: usize) -> Change {
+    Change { old, new, count, oracle_only: true }
+}
+
+pub fn make(part: &Part, whole: &str, made: Made) -> Result<String, String> {
     let mut text = cut(whole, part.marks)?.to_string();
-    for c in part.changes {
+    for c in part.changes.iter().filter(|c| made == Made::Oracle || !c.oracle_only) {
         text = changed(&text, c)?;
     }
-    Ok(format!("{}{text}{}", part.frame.0, part.frame.1))
+    let text = format!("{}{text}{}", part.frame.0, part.frame.1);
+    Ok(match made {
+        Made::Oracle => text,
+        Made::Published => text.replace("crate::oracle::", "crate::published::"),
+    })
 }
 
 fn cut<'a>(whole: &'a str, (from, to): (&str, &str)) -> Result<&'a str, String> {

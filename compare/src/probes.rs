@@ -4,8 +4,11 @@
 pub mod cells;
 pub mod constellations;
 pub mod estimates;
+#[cfg(ion_hf)]
+pub mod headers;
 pub mod likelihoods;
 pub mod pilots;
+pub mod records;
 pub mod refinements;
 pub mod spreading;
 

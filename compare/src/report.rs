@@ -39,6 +39,27 @@ impl Tally {
         }
     }
 
+    /// Counts every byte of two lists of one length.
+    pub fn bytes(&mut self, what: &str, args: &[u64], ours: &[u8], expected: &[u8]) {
+        self.same(what, args, ours.len(), expected.len());
+        if ours == expected {
+            self.compared += ours.len() as u64;
+            return;
+        }
+        for (i, (&o, &e)) in ours.iter().zip(expected).enumerate() {
+            let args: Vec<u64> = args.iter().copied().chain([i as u64]).collect();
+            self.same(what, &args, o as u32, e as u32);
+        }
+    }
+
+    /// Takes in what another thread counted.
+    pub fn add(&mut self, other: Tally) {
+        self.compared += other.compared;
+        self.different += other.different;
+        self.shown.extend(other.shown);
+        self.shown.truncate(SHOWN);
+    }
+
     #[cold]
     fn differs(&mut self, what: &str, args: &[u64], ours: u64, expected: u64) {
         self.different += 1;

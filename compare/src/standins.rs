@@ -30,7 +30,12 @@ pub fn exp(x: f32) -> f32 {
         p = M - (f * p / M) / j;
     }
     // P has at most 33 digits and the divisor is a power of two: only the last step rounds.
-    (p as f64 / (M as f64 * (1u128 << n) as f64)) as f32
+    (p as f64 / (M as f64 * power_of_two(n))) as f32
+}
+
+/// 2^n for n below 1,024.
+fn power_of_two(n: u64) -> f64 {
+    f64::from_bits((1023 + n) << 52)
 }
 
 /// Odd(Z), which gives A.
@@ -132,8 +137,11 @@ pub fn max64(a: f64, b: f64) -> f64 {
     if b > a || a.is_nan() { b } else { a }
 }
 
-/// A list longer than k becomes its first k by distance, then by place: the sort is stable.
+/// A list longer than k becomes its first k by distance, then by place. A candidate's second number, the pilot's, rises
+/// with its place.
 pub fn keep_nearest(list: &mut Vec<(f32, u32)>, k: usize) {
-    list.sort_by(|a, b| a.0.total_cmp(&b.0));
+    let nearer = |a: &(f32, u32), b: &(f32, u32)| a.0.total_cmp(&b.0).then(a.1.cmp(&b.1));
+    list.select_nth_unstable_by(k - 1, nearer);
     list.truncate(k);
+    list.sort_unstable_by(nearer);
 }

@@ -7,6 +7,7 @@ mod choices;
 mod estimates;
 mod exponential;
 mod gain;
+mod headers;
 mod known;
 mod layouts;
 mod likelihoods;
@@ -16,7 +17,7 @@ mod models;
 mod narrow;
 mod pilots;
 mod points;
-mod refinements;
+pub mod refinements;
 mod roots;
 mod slot_lists;
 mod slots;
@@ -64,6 +65,9 @@ const ALL: &[fn() -> Tally] = &[
     likelihoods::compare,
     refinements::compare,
     causes::compare,
+    headers::compare_crc,
+    headers::compare_written,
+    headers::compare_parsed,
 ];
 
 /// Runs every group, two at a time, and answers them in their order.

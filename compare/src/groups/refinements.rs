@@ -35,7 +35,7 @@ pub fn compare() -> Tally {
 
 /// What must occur among the bursts.
 #[derive(Default)]
-struct Met {
+pub struct Met {
     fallback: bool,
     scale: bool,
     spoilt: bool,
@@ -97,11 +97,12 @@ pub fn call(rng: &mut Rng, b: &Burst, extra: usize) -> Call {
     }
 }
 
-fn one(t: &mut Tally, rng: &mut Rng, met: &mut Met, b: &Burst) {
+pub fn one(t: &mut Tally, rng: &mut Rng, met: &mut Met, b: &Burst) {
     let extra = rng.pick(&[0, 0, 1, 5]);
     let mut c = call(rng, b, extra);
     let before = c.clone();
     let r = b.refine();
+    let channel = r.channel();
     let flags = (b.sparse as u64) << 1 | b.spread as u64;
     let args = |i: usize| [b.layout as u64, b.constellation as u64, flags, b.nsym as u64, b.k as u64, i as u64];
     t.same("accepted", &args(0), c.refine(), 0);
@@ -110,9 +111,9 @@ fn one(t: &mut Tally, rng: &mut Rng, met: &mut Met, b: &Burst) {
     t.same("spoilt", &args(0), c.report[2] as usize, r.spoilt());
     t.same("scale", &args(0), c.scale[0], r.est.mse_scale);
     t.same("likelihoods", &args(0), r.llrs.len(), b.bits());
-    t.same("channel", &args(0), r.channel.len(), 3 * b.cells());
+    t.same("channel", &args(0), channel.len(), 3 * b.cells());
     r.llrs.iter().enumerate().for_each(|(i, &v)| t.same("likelihood", &args(i), c.answer[i], v));
-    r.channel.iter().enumerate().for_each(|(i, &v)| t.same("channel", &args(i), c.channel[i], v));
+    channel.iter().enumerate().for_each(|(i, &v)| t.same("channel", &args(i), c.channel[i], v));
     for i in 0..extra {
         let (j, k) = (b.bits() + i, 3 * b.cells() + i);
         t.same("past the answer", &args(i), c.answer[j].to_bits(), before.answer[j].to_bits());

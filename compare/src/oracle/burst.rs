@@ -92,13 +92,17 @@ impl Burst {
         map
     }
 
-    pub fn refine(&self) -> Refined {
+    /// What the receiver keeps of the burst until it is refined.
+    pub fn kept(&self) -> BurstGrid {
         let grid: Vec<Complex> = self.grid.chunks_exact(2).map(|y| Complex::new(y[0], y[1])).collect();
         assert_eq!(grid.len(), self.symbols() * self.shape().nc);
         let mut sigma2 = [0f32; NC_MAX];
         sigma2[..self.shape().nc].copy_from_slice(&self.carrier_variances);
         let cells = self.cell_variances.clone();
         BurstGrid::new(self.shape(), self.header(), self.map(), &grid, sigma2, cells, self.p_h)
-            .refine(&self.prior, self.k)
+    }
+
+    pub fn refine(&self) -> Refined {
+        self.kept().refine(&self.prior, self.k)
     }
 }

@@ -9,14 +9,18 @@ pub struct Refined {
     /// As refine left it: pilots, candidates, chosen model (`index`, 3 3 for the fallback) and
     /// `mse_scale`.
     pub est: Estimator,
-    /// Each cell's estimate (re, im) and error, in cell order.
-    pub channel: Vec<f32>,
+    h: Vec<Complex>,
+    mse: Vec<f32>,
 }
 
 impl Refined {
-    pub fn new(llrs: Vec<f32>, est: Estimator, h: &[Complex], mse: &[f32]) -> Refined {
-        let channel = h.iter().zip(mse).flat_map(|(h, &e)| [h.re, h.im, e]).collect();
-        Refined { llrs, est, channel }
+    pub fn new(llrs: Vec<f32>, est: Estimator, h: Vec<Complex>, mse: Vec<f32>) -> Refined {
+        Refined { llrs, est, h, mse }
+    }
+
+    /// Each cell's estimate (re, im) and error, in cell order.
+    pub fn channel(&self) -> Vec<f32> {
+        self.h.iter().zip(&self.mse).flat_map(|(h, &e)| [h.re, h.im, e]).collect()
     }
 
     /// The likelihoods that are not a number.

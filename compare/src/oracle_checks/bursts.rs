@@ -50,7 +50,7 @@ fn error_not_a_number(t: &mut Tally) {
     b.carrier_variances.fill(f32::MAX);
     let r = b.refine();
     t.same("infinite variance", &[], r.est.pilots.iter().any(|p| p.var.is_infinite()), true);
-    for (cell, c) in r.channel.chunks_exact(3).enumerate() {
+    for (cell, c) in r.channel().chunks_exact(3).enumerate() {
         t.same("its error", &[cell as u64], c[2], 0.0);
     }
 }

@@ -9,6 +9,7 @@ pub fn check() -> Tally {
     let mut t = Tally::new("oracle: recipes");
     near_the_library(&mut t);
     gains_clear_of_ties(&mut t);
+    nearest(&mut t);
     t
 }
 
@@ -33,5 +34,17 @@ fn gains_clear_of_ties(t: &mut Tally) {
         for off in [-1e-13, 1e-13] {
             t.same("gain", &[code as u64], (wide + off) as f32, standins::gain(code));
         }
+    }
+}
+
+/// The stable sort of the whole list, cut: document 01's words. Few distances, so that many are equal.
+fn nearest(t: &mut Tally) {
+    for list in seeded(111, 1000, |r| (0..r.between(42, 300)).map(|i| (r.between(0, 30) as f32, i as u32)).collect()) {
+        let list: Vec<(f32, u32)> = list;
+        let k = 1 + list.len() % 40;
+        let (mut kept, mut sorted) = (list.clone(), list);
+        standins::keep_nearest(&mut kept, k);
+        sorted.sort_by(|a, b| a.0.total_cmp(&b.0));
+        t.same("nearest", &[k as u64], kept == sorted[..k], true);
     }
 }

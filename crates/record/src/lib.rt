@@ -7,6 +7,7 @@ mod judging;
 mod numbers;
 mod shape;
 
+pub use bytes::word_at;
 pub use calls::refine_record;
 pub use calls::refine_record_channel;
 pub use fields::Fields;
