@@ -2,3 +2,4 @@ pub mod Written
 pub mod Front
 pub mod Laws
 pub mod Expected
+pub mod OneList

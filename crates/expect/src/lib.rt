@@ -1,6 +1,7 @@
 // refine.rs, `refine`: the expected value and variance of every data cell as sent, under the priors.
 mod cells;
 mod symbol;
+mod within;
 
 ghost use mathlib.Core.Path.{_≡_};
 ghost use mathlib.Core.List.{_++_};
@@ -12,6 +13,7 @@ use cells::soft_cells;
 pub use symbol::row_means;
 pub use symbol::row_variance;
 use symbol::spread_row;
+pub use within::expect_within;
 
 // Data symbols, cells in each, bits a cell, the points' gain, and whether a symbol's points are spread over its carriers.
 pub struct Shape {

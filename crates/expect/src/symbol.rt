@@ -44,7 +44,7 @@ pub fn row_variance(dc: usize, soft: &[f32], t: usize) -> f32
 }
 
 // The means spread, before the gain.
-fn spread_means(tw: &[f32; 218], dc: usize, soft: &[f32], t: usize, row: &mut [f32])
+pub fn spread_means(tw: &[f32; 218], dc: usize, soft: &[f32], t: usize, row: &mut [f32])
     requires { ⌜ (now tw ≡ twiddlesOf dc) × (dc ≤ 109) × ((t * dc + dc) * 3 ≤ length (now soft)) × (2 * dc ≤ length (now row)) ⌝ }
     ensures { λ _. ⌜ now (row .exit) ≡ spreadMeans dc (now (soft .entry)) t ++ drop (2 * dc) (now (row .entry)) ⌝ }
 {
@@ -53,7 +53,7 @@ fn spread_means(tw: &[f32; 218], dc: usize, soft: &[f32], t: usize, row: &mut [f
 }
 
 // The variance of each of its cells as sent.
-fn spread_variance(dc: usize, gain: f32, soft: &[f32], t: usize) -> f32
+pub fn spread_variance(dc: usize, gain: f32, soft: &[f32], t: usize) -> f32
     requires { ⌜ (dc ≤ 109) × ((t * dc + dc) * 3 ≤ length (now soft)) ⌝ }
     ensures { λ r. ⌜ r ≡ spreadVariance dc (now (soft .entry)) t gain ⌝ }
 {
@@ -61,7 +61,7 @@ fn spread_variance(dc: usize, gain: f32, soft: &[f32], t: usize) -> f32
 }
 
 // Cells of the means row times the gain, and of one variance.
-fn scaled_cells(dc: usize, gain: f32, mv: f32, row: &[f32], out: &mut [f32])
+pub fn scaled_cells(dc: usize, gain: f32, mv: f32, row: &[f32], out: &mut [f32])
     requires { ⌜ (2 * dc ≤ length (now row)) × (dc * 3 ≤ length (now out)) ⌝ }
     ensures { λ _. ⌜ now (out .exit) ≡ scaledCells dc gain mv (now (row .entry)) ++ drop (dc * 3) (now (out .entry)) ⌝ }
 {

@@ -4,3 +4,4 @@ pub mod Own
 pub mod Sources
 mod Storing
 mod Turns
+mod OneList

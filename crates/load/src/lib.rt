@@ -3,6 +3,7 @@ mod found;
 mod pilot;
 mod push;
 mod rows;
+mod within;
 
 pub use found::Found;
 pub use found::Source;
@@ -11,3 +12,4 @@ pub use pilot::Pilot;
 pub use push::pilot_of;
 pub use push::sample;
 pub use rows::load;
+pub use within::load_within;

@@ -12,7 +12,8 @@ use borrow.Author.Tests.{le-ltb, le-leb, eq-eqb, ne-eqb}
 use Rattle.ieee.specs.Num.{zero32, one32}
 use Rattle.ieee.specs.Order.{isFinite}
 use Rattle.phy.specs.Sizes.{ncOf, gridCells, ncellOf, nbitsOf, workLength}
-use Rattle.phy.specs.Rows.{all, isVariance, isPower, isLevel, badLayout, badCodes, badSymbols, badGrid, badVariances, badSettings, badNumbers, roomFor}
+use Rattle.scan.specs.Fine.{all, isVariance}
+use Rattle.phy.specs.Rows.{isPower, isLevel, badLayout, badCodes, badSymbols, badGrid, badVariances, badSettings, badNumbers, roomFor}
 use Rattle.phy.specs.Refusals.{refusalOf}
 use Rattle.phy.specs.Entry.{lent, refusalIn}
 use Rattle.phy.specs.Table.{plain, silent, blank, SomeAccepted}

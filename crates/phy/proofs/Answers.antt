@@ -14,7 +14,7 @@ use Rattle.phy.specs.Causes.{causeNumber}
 use Rattle.phy.specs.Entry.{refusalIn, Refining}
 
 -- no cause has the number 0
-some-cause : (cause : Cause) → 1 ≤ causeNumber cause
+pub some-cause : (cause : Cause) → 1 ≤ causeNumber cause
 some-cause Layout = omega arith
 some-cause Codes = omega arith
 some-cause Symbols = omega arith

@@ -8,7 +8,8 @@ use lib.Ieee.{Float, inf, neg, ofBits, round, lt, le}
 use Rattle.ieee.specs.Order.{isFinite}
 use Rattle.refine.specs.declared.settings.Settings.{Settings}
 use Rattle.phy.specs.Sizes.{nbitsOf}
-use Rattle.phy.specs.Rows.{isVariance, isPower, isLevel, badNumbers}
+use Rattle.scan.specs.Fine.{isVariance}
+use Rattle.phy.specs.Rows.{isPower, isLevel, badNumbers}
 use Rattle.phy.specs.Edges.{Edges}
 
 take-twice : (n : ℕ) (xs : List Float) → take n (take n xs) ≡ take n xs

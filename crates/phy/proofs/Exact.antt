@@ -11,7 +11,7 @@ use lib.Ieee.{Float}
 use Rattle.refine.specs.Refine.{Burst}
 use Rattle.phy.specs.Refusals.{refusalOf}
 use Rattle.phy.specs.Table.{rows, First, Exact}
-use Rattle.phy.proofs.Tests.{true-false}
+use Rattle.scan.proofs.Tests.{true-false}
 
 -- the number of the first true test, where the first test has the number n, or 0
 abbrev numbered : ℕ → List Bool → ℕ

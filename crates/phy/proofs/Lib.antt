@@ -1,7 +1,5 @@
 -- Laws of the definitions, for the proofs here and in the crates above.
 pub mod Bounded
-pub mod Scanning
-pub mod Tests
 pub mod Room
 pub mod Passing
 pub mod Exact
@@ -10,3 +8,5 @@ pub mod Answers
 pub mod Fixing
 pub mod OwnPriors
 pub mod AtEdges
+pub mod WorkOnly
+pub mod Measured

@@ -15,7 +15,7 @@ use Rattle.phy.specs.Sizes.{Counted, ncOf, gridCells, ncellOf, nbitsOf, 
 use Rattle.phy.specs.Rows.{badCodes, badSymbols, badGrid, badVariances, roomFor}
 use Rattle.phy.specs.Table.{rows}
 use Rattle.phy.specs.Entry.{lent, refusalIn}
-use Rattle.phy.proofs.Tests.{neither, both}
+use Rattle.scan.proofs.Tests.{neither, both}
 use Rattle.phy.proofs.Exact.{exact}
 
 module _ (s : Settings) where

@@ -7,7 +7,8 @@ use lib.Ieee.{Float, nan, inf, neg, round, binary32}
 use Rattle.ieee.specs.Num.{zero32}
 use Rattle.refine.specs.declared.settings.Settings.{Settings}
 use Rattle.phy.specs.Sizes.{nbitsOf}
-use Rattle.phy.specs.Rows.{isVariance, isPower, isLevel, eighth32, eight32, badNumbers}
+use Rattle.scan.specs.Fine.{isVariance}
+use Rattle.phy.specs.Rows.{isPower, isLevel, eighth32, eight32, badNumbers}
 
 pub record Edges : Type 0 where
   -- 0.125 and 8, and both lie inside

@@ -6,3 +6,4 @@ pub mod Entry
 pub mod Table
 pub mod Edges
 pub mod Independence
+pub mod Channels

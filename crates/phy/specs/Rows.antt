@@ -1,25 +1,18 @@
 -- Document 01's causes for turning a burst away, a definition a row: true where the row turns the call away.
 use Prim.Native.Nat.{_*_}
-use mathlib.Core.Bool.{Bool, true, not, _&&_, _||_}
-use mathlib.Core.List.{List, [], _∷_}
+use mathlib.Core.Bool.{Bool, not, _&&_, _||_}
+use mathlib.Core.List.{List}
 use lib.ListN.{length, take}
 use lib.Dec.{ltb, leb, eqb}
 use lib.Ieee.{Float, binary32, ofBits, lt, le}
 use Rattle.ieee.specs.Num.{zero32}
 use Rattle.ieee.specs.Order.{isFinite}
+use Rattle.scan.specs.Fine.{all, isVariance}
 use Rattle.refine.specs.declared.settings.Settings.{Settings}
 use Rattle.phy.specs.declared.causes.Lent.{Lent}
 use Rattle.phy.specs.Sizes.{ncOf, gridCells, ncellOf, nbitsOf, workLength}
 
--- ---- which numbers are fine
-
-unfoldable pub all : (Float → Bool) → List Float → Bool
-all p [] = true
-all p (x ∷ xs) = p x && all p xs
-
--- finite and not below 0: -0 is a variance
-unfoldable pub isVariance : Float → Bool
-isVariance x = not (lt x zero32) && isFinite x
+-- ---- which of the settings' numbers are fine
 
 -- finite and above 0: -0 is no power
 unfoldable pub isPower : Float → Bool

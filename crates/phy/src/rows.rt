@@ -3,14 +3,14 @@ ghost use mathlib.Core.Path.{_≡_};
 ghost use Rattle.phy.specs.Sizes.{Counted};
 ghost use Rattle.phy.specs.Rows.{isLevel, isPower, badLayout, badCodes, badSymbols, badGrid, badVariances, badSettings, badNumbers, roomFor};
 use crate::causes::Lent;
-use crate::scan::all_finite;
-use crate::scan::all_variances;
-use crate::scan::first_finite;
 use crate::sizes::grid_cells;
 use crate::sizes::nbits;
 use crate::sizes::nc;
 use crate::sizes::ncell;
 use refine::Settings;
+use scan::all_finite;
+use scan::all_variances;
+use scan::first_finite;
 
 pub fn bad_layout(s: Settings) -> bool
     ensures { λ r. ⌜ r ≡ badLayout s ⌝ }

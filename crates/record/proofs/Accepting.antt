@@ -13,12 +13,13 @@ use Rattle.ieee.specs.Num.{zero32, one32}
 use Rattle.ieee.specs.Order.{isFinite}
 use Rattle.refine.specs.declared.settings.Settings.{Settings}
 use Rattle.phy.specs.Sizes.{ncOf, ncellOf, gridCells, nbitsOf, workLength}
-use Rattle.phy.specs.Rows.{all, isVariance, badSettings, badNumbers, roomFor}
+use Rattle.scan.specs.Fine.{all, isVariance}
+use Rattle.phy.specs.Rows.{badSettings, badNumbers, roomFor}
 use Rattle.phy.specs.Refusals.{refusalOf}
 use Rattle.phy.specs.Entry.{lent}
 use Rattle.phy.specs.Table as lists
 use Rattle.phy.specs.Table.{plain, silent, blank}
-use Rattle.phy.proofs.Tests.{true-false}
+use Rattle.scan.proofs.Tests.{true-false}
 use Rattle.phy.proofs.Exact as lists-exact
 use Rattle.phy.proofs.Accepting as lists-accepting
 use Rattle.record.specs.Layout.{Holds}

@@ -13,7 +13,7 @@ use Rattle.phy.specs.Sizes.{ncOf, ncellOf, gridCells}
 use Rattle.phy.specs.Rows.{badLayout, badCodes, badSymbols, badGrid, badVariances, badNumbers}
 use Rattle.phy.specs.Refusals.{refusalOf}
 use Rattle.phy.specs.Table.{First}
-use Rattle.phy.proofs.Tests.{true-false}
+use Rattle.scan.proofs.Tests.{true-false}
 use Rattle.record.specs.Record.{fields, fieldsOf, settings, settingsOf, burstOf, priorOf}
 use Rattle.record.specs.Refusals.{badRecord, badLength, shapeRefusal, refusalIn}
 use Rattle.record.specs.Table.{rows, rowNumbers, Exact}

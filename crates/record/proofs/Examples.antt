@@ -12,7 +12,7 @@ use Rattle.layout.specs.Sizes.{patternOf, dataCarriersOf}
 use Rattle.layout.specs.Patterns.{pilotsOf}
 use Rattle.refine.specs.Refine.{nbits}
 use Rattle.phy.specs.Table.{plain}
-use Rattle.phy.proofs.Tests.{neither}
+use Rattle.scan.proofs.Tests.{neither}
 use Rattle.record.specs.Record.{head, fields, fieldsOf, settings, settingsOf, burstOf, countOf}
 use Rattle.record.specs.Layout.{headOf, headBytes, laidOut}
 use Rattle.record.specs.Refusals.{badRecord, badLength, refusalIn, bitsOf}

@@ -10,7 +10,7 @@ use lib.Ieee.{Float, binary32, fits, nan}
 use lib.Ieee.Bits.{ofBits-fits}
 use Rattle.seq.specs.Tab.Laws.{length-tab, getD-tab}
 use Rattle.phy.specs.Sizes.{ncOf, ncellOf, gridCells}
-use Rattle.phy.specs.Rows.{all}
+use Rattle.scan.specs.Fine.{all}
 use Rattle.refine.specs.declared.settings.Settings.{Settings}
 use Rattle.refine.specs.Refine.{Burst, burst}
 use Rattle.record.specs.declared.fields.Fields.{Fields}

@@ -14,7 +14,7 @@ use Rattle.points.specs.Constellation.{bpsOf}
 use Rattle.refine.specs.declared.settings.Settings.{Settings}
 use Rattle.phy.specs.Sizes.{Counted, ncOf, ncellOf, gridCells, nbitsOf, workLength}
 use Rattle.phy.specs.Rows.{badLayout, badCodes, badSymbols}
-use Rattle.phy.proofs.Tests.{neither}
+use Rattle.scan.proofs.Tests.{neither}
 use Rattle.phy.proofs.Passing.{counted}
 use Rattle.record.specs.Record.{head, padding, settings, settingsOf, fields, countOf}
 use Rattle.record.specs.Sizes.{plain}

@@ -8,7 +8,7 @@ use lib.ListN.{length, getD}
 use lib.Ieee.{Float, binary32, fits, nan}
 use Rattle.seq.specs.Cat.{cat}
 use Rattle.phy.specs.Sizes.{ncOf, ncellOf, gridCells}
-use Rattle.phy.specs.Rows.{all}
+use Rattle.scan.specs.Fine.{all}
 use Rattle.refine.specs.declared.settings.Settings.{Settings}
 use Rattle.refine.specs.Refine.{Burst}
 use Rattle.record.specs.Bytes.{number}

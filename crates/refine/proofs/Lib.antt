@@ -2,7 +2,7 @@ mod Exact
 mod Hearing
 mod EachSymbol
 mod Sliced
-mod Ready
+pub mod Ready
 mod Joined
 pub mod Blanked
 pub mod Ordered

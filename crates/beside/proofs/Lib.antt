@@ -1,0 +1,3 @@
+-- Laws of the definitions, for the proofs here.
+mod Deciding
+mod Equalizing
