@@ -1,27 +1,12 @@
 // phy: channel_power and the single estimate.
 ghost use mathlib.Core.Path.{_≡_};
 ghost use Rattle.refine.specs.Refine.{burst};
-ghost use Rattle.phy.specs.Causes.{causeNumber};
 ghost use Rattle.phy.specs.Channels.{powerNumber, singleNumber};
 ghost use Rattle.asides.specs.Told.{settingsOf, powerOut, singleOut, ProbedPower, ProbedSingle};
-use phy::Cause;
 use phy::Power;
 use phy::Single;
+use phy::cause_number;
 use refine::Settings;
-
-fn cause_number(cause: Cause) -> u32
-    ensures { λ r. ⌜ r ≡ causeNumber cause ⌝ }
-{
-    match cause {
-        Cause::Layout => 1,
-        Cause::Codes => 2,
-        Cause::Symbols => 3,
-        Cause::Grid => 4,
-        Cause::Variances => 5,
-        Cause::Room => 6,
-        Cause::Numbers => 7,
-    }
-}
 
 fn power_told(r: Power, out: &mut [f32; 1]) -> u32
     ensures { λ n. ⌜ (n ≡ powerNumber r) × (now (out .exit) ≡ powerOut r (now (out .entry))) ⌝ }

@@ -13,7 +13,7 @@ use Rattle.seq.specs.Cat.{cat}
 use Rattle.seq.specs.Cat.Laws.{cat-same}
 use Rattle.refine.specs.declared.whole.Refined.{Refined}
 use Rattle.refine.specs.Refine.{nbits, refinedOf, answerOf}
-use Rattle.record.specs.Bytes.{wordAt, word}
+use Rattle.words.specs.Bytes.{wordAt, word}
 use Rattle.record.specs.Record.{burstOf, priorOf}
 use Rattle.record.specs.Refusals.{refusalIn, bitsOf, answerLength}
 use Rattle.record.specs.Answer.{reportBytes, numberBytes, answerBytes, Answers}

@@ -7,7 +7,7 @@ use lib.ListN.{length, getD, List·getD-append}
 use lib.Seq.{getD-append-add}
 use Rattle.seq.specs.Cat.{cat}
 use Rattle.seq.specs.Cat.Laws.{length-cat, getD-cat}
-use Rattle.record.specs.Bytes.{wordAt, word}
+use Rattle.words.specs.Bytes.{wordAt, word}
 
 length-word : (x : ℕ) → length (word x) ≡ 4
 unfolding word

@@ -4,7 +4,7 @@ ghost use mathlib.Core.List.{_++_};
 ghost use Prim.Native.Nat.{_+_, _*_, _≤_};
 ghost use lib.ListN.{length, getD};
 ghost use Rattle.seq.specs.Cat.{cat};
-ghost use Rattle.record.specs.Bytes.{wordAt};
+ghost use Rattle.words.specs.Bytes.{wordAt};
 ghost use Rattle.burst.specs.Text.{Puts};
 ghost use Rattle.burst.specs.Lines.{shownZero, lineOf, modelOf, headingOf, refusedOf, answerLines};
 use crate::digits::put_hex;
@@ -37,7 +37,7 @@ fn put_lines(answer: &[u8], n: usize, at: usize, text: &mut [u8]) -> usize
     let mut i = 0;
     let mut next = at;
     while i < n {
-        next = put_line(record::word_at(answer, 10 + 4 * i), next, text);
+        next = put_line(words::word_at(answer, 10 + 4 * i), next, text);
         i += 1;
     }
     next
@@ -86,8 +86,8 @@ pub fn put_answer(answer: &[u8], n: usize, text: &mut [u8]) -> usize
 {
     let fd = wide(answer[0]);
     let tm = wide(answer[1]);
-    let scale = record::word_at(answer, 2);
-    let spoilt = record::word_at(answer, 6);
+    let scale = words::word_at(answer, 2);
+    let spoilt = words::word_at(answer, 6);
     let next = put_heading(n as u32, fd, tm, scale, spoilt, text);
     put_lines(answer, n, next, text)
 }

@@ -1,25 +1,10 @@
 // phy: the whole refinement, its cause as a number.
 ghost use mathlib.Core.Path.{_≡_};
 ghost use Rattle.refine.specs.Refine.{burst};
-ghost use Rattle.phy.specs.Causes.{causeNumber};
 ghost use Rattle.bursts.specs.Refinements.{settingsOf, Reported, Probed};
-use phy::Cause;
 use phy::Refinement;
+use phy::cause_number;
 use refine::Settings;
-
-fn cause_number(cause: Cause) -> u32
-    ensures { λ r. ⌜ r ≡ causeNumber cause ⌝ }
-{
-    match cause {
-        Cause::Layout => 1,
-        Cause::Codes => 2,
-        Cause::Symbols => 3,
-        Cause::Grid => 4,
-        Cause::Variances => 5,
-        Cause::Room => 6,
-        Cause::Numbers => 7,
-    }
-}
 
 // The report takes both indices of the model and how many likelihoods are not a number.
 fn reported(r: Refinement, report: &mut [u32; 3], scale: &mut [f32; 1]) -> u32

@@ -5,7 +5,7 @@ ghost use lib.ListN.{length};
 ghost use Rattle.header.specs.Bits.{areBits, value, digits};
 
 // Every byte is 0 or 1.
-pub fn all_bits(bits: &[u8]) -> bool
+pub(crate) fn all_bits(bits: &[u8]) -> bool
     ensures { λ r. ⌜ r ≡ areBits (now (bits .entry)) ⌝ }
 {
     let mut i = 0;
@@ -25,7 +25,7 @@ fn low_bit(b: u8) -> u32
 }
 
 // The number that the bits write.
-pub fn read_bits(bits: &[u8]) -> u32
+pub(crate) fn read_bits(bits: &[u8]) -> u32
     requires { ⌜ length (now bits) ≤ 32 ⌝ }
     ensures { λ r. ⌜ r ≡ value (now (bits .entry)) ⌝ }
 {
@@ -39,7 +39,7 @@ pub fn read_bits(bits: &[u8]) -> u32
 }
 
 // The lowest digits of v, as many as the list holds.
-pub fn push_bits(out: &mut [u8], v: u32)
+pub(crate) fn push_bits(out: &mut [u8], v: u32)
     requires { ⌜ length (now out) ≤ 32 ⌝ }
     ensures { λ _. ⌜ now (out .exit) ≡ digits (length (now (out .entry))) v ⌝ }
 {

@@ -60,7 +60,7 @@ impl Header {
 }
 
 // The 32 bits of information of a data burst.
-pub fn data_info(h: Header) -> u32
+pub(crate) fn data_info(h: Header) -> u32
     requires { ⌜ accepted h ≡ true ⌝ }
     ensures { λ r. ⌜ r ≡ dataInfo h ⌝ }
 {
@@ -69,7 +69,7 @@ pub fn data_info(h: Header) -> u32
 }
 
 // The 32 bits of information of a header-only burst.
-pub fn only_info(h: Header) -> u32
+pub(crate) fn only_info(h: Header) -> u32
     ensures { λ r. ⌜ r ≡ onlyInfo h ⌝ }
 {
     let e = h.extra as u32;

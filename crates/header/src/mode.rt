@@ -8,7 +8,7 @@ pub struct DataMode {
     pub gain_code: u8,
 }
 
-pub fn flag(b: bool) -> u32
+pub(crate) fn flag(b: bool) -> u32
     ensures { λ r. ⌜ (r ≡ bit b) × (r ≤ 1) ⌝ }
 {
     if b { 1 } else { 0 }

@@ -1,4 +1,6 @@
 // What an entry answers to a call that it turns away.
+ghost use mathlib.Core.Path.{_≡_};
+ghost use Rattle.phy.specs.Causes.{causeNumber};
 
 // A row of the table of causes.
 pub enum Cause {
@@ -9,6 +11,21 @@ pub enum Cause {
     Variances,
     Room,
     Numbers,
+}
+
+// Its number in document 01.
+pub fn cause_number(cause: Cause) -> u32
+    ensures { λ r. ⌜ r ≡ causeNumber cause ⌝ }
+{
+    match cause {
+        Cause::Layout => 1,
+        Cause::Codes => 2,
+        Cause::Symbols => 3,
+        Cause::Grid => 4,
+        Cause::Variances => 5,
+        Cause::Room => 6,
+        Cause::Numbers => 7,
+    }
 }
 
 // What the table says of a call.

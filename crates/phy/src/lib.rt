@@ -13,6 +13,7 @@ pub use beside::Equalization;
 pub use beside::decide;
 pub use beside::fde;
 pub use causes::Cause;
+pub use causes::cause_number;
 pub use power::Power;
 pub use power::channel_power;
 pub use refinement::Refinement;

@@ -16,7 +16,7 @@ use crate::rows::bad_variances;
 use crate::rows::room_for;
 use refine::Settings;
 
-pub fn verdict(
+pub(crate) fn verdict(
     s: Settings,
     grid: &[f32],
     sigma: &[f32],

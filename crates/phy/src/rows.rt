@@ -12,13 +12,13 @@ use scan::all_finite;
 use scan::all_variances;
 use scan::first_finite;
 
-pub fn bad_layout(s: Settings) -> bool
+pub(crate) fn bad_layout(s: Settings) -> bool
     ensures { λ r. ⌜ r ≡ badLayout s ⌝ }
 {
     s.layout > 8
 }
 
-pub fn bad_codes(s: Settings) -> bool
+pub(crate) fn bad_codes(s: Settings) -> bool
     ensures { λ r. ⌜ r ≡ badCodes s ⌝ }
 {
     if s.constellation > 3 {
@@ -27,7 +27,7 @@ pub fn bad_codes(s: Settings) -> bool
     s.gain_code > 3
 }
 
-pub fn bad_symbols(s: Settings) -> bool
+pub(crate) fn bad_symbols(s: Settings) -> bool
     ensures { λ r. ⌜ r ≡ badSymbols s ⌝ }
 {
     if s.nsym == 0 {
@@ -36,14 +36,14 @@ pub fn bad_symbols(s: Settings) -> bool
     s.nsym > 1023
 }
 
-pub fn bad_grid(s: Settings, grid: &[f32]) -> bool
+pub(crate) fn bad_grid(s: Settings, grid: &[f32]) -> bool
     requires { ⌜ Counted s ⌝ }
     ensures { λ r. ⌜ r ≡ badGrid s (now (grid .entry)) ⌝ }
 {
     grid.len() != 2 * grid_cells(s)
 }
 
-pub fn bad_variances(s: Settings, sigma: &[f32], cells: &[f32]) -> bool
+pub(crate) fn bad_variances(s: Settings, sigma: &[f32], cells: &[f32]) -> bool
     requires { ⌜ Counted s ⌝ }
     ensures { λ r. ⌜ r ≡ badVariances s (now (sigma .entry)) (now (cells .entry)) ⌝ }
 {
@@ -53,7 +53,7 @@ pub fn bad_variances(s: Settings, sigma: &[f32], cells: &[f32]) -> bool
     cells.len() != ncell(s)
 }
 
-pub fn room_for(s: Settings, lent: Lent) -> bool
+pub(crate) fn room_for(s: Settings, lent: Lent) -> bool
     requires { ⌜ Counted s ⌝ }
     ensures { λ r. ⌜ r ≡ roomFor s lent ⌝ }
 {
@@ -102,7 +102,13 @@ fn bad_settings(s: Settings) -> bool
     !is_power(s.p_h)
 }
 
-pub fn bad_numbers(s: Settings, grid: &[f32], sigma: &[f32], cells: &[f32], prior: &[f32]) -> bool
+pub(crate) fn bad_numbers(
+    s: Settings,
+    grid: &[f32],
+    sigma: &[f32],
+    cells: &[f32],
+    prior: &[f32],
+) -> bool
     requires { ⌜ Counted s ⌝ }
     ensures { λ r. ⌜ r ≡ badNumbers s (now (grid .entry)) (now (sigma .entry)) (now (cells .entry)) (now (prior .entry)) ⌝ }
 {

@@ -4,7 +4,7 @@ ghost use Rattle.phy.specs.Sizes.{Counted, ncOf, gridCells, ncellOf, nbi
 use refine::Settings;
 
 // Cells of the grid: ng × nc.
-pub fn grid_cells(s: Settings) -> usize
+pub(crate) fn grid_cells(s: Settings) -> usize
     requires { ⌜ Counted s ⌝ }
     ensures { λ r. ⌜ r ≡ gridCells s ⌝ }
 {
@@ -12,21 +12,21 @@ pub fn grid_cells(s: Settings) -> usize
     l.ng(s.nsym) * l.nc
 }
 
-pub fn nc(s: Settings) -> usize
+pub(crate) fn nc(s: Settings) -> usize
     ensures { λ r. ⌜ r ≡ ncOf s ⌝ }
 {
     let l = layout::layout(s.layout);
     l.nc
 }
 
-pub fn ncell(s: Settings) -> usize
+pub(crate) fn ncell(s: Settings) -> usize
     requires { ⌜ Counted s ⌝ }
     ensures { λ r. ⌜ r ≡ ncellOf s ⌝ }
 {
     layout::layout(s.layout).ncell(s.sparse, s.nsym)
 }
 
-pub fn nbits(s: Settings) -> usize
+pub(crate) fn nbits(s: Settings) -> usize
     requires { ⌜ Counted s ⌝ }
     ensures { λ r. ⌜ r ≡ nbitsOf s ⌝ }
 {

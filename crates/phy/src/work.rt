@@ -10,7 +10,7 @@ use crate::refusal::verdict;
 use refine::Settings;
 
 // wf and wu are how many numbers its two lists have.
-pub fn work_verdict(
+pub(crate) fn work_verdict(
     s: Settings,
     grid: &[f32],
     sigma: &[f32],

@@ -15,7 +15,7 @@ use Rattle.seq.specs.Cat.Laws.{cat-same, cat-add, cat-zero, cat-suc, getD-cat}
 use Rattle.seq.specs.Tab.{tab}
 use Rattle.seq.specs.Tab.Laws.{tab-only}
 use Rattle.scan.specs.Fine.{all}
-use Rattle.record.specs.Bytes.{wordAt, word, number}
+use Rattle.words.specs.Bytes.{wordAt, word, number}
 use Rattle.record.specs.Layout.{numbersLaid}
 use Rattle.record.specs.Record.{numberAt}
 use Rattle.record.proofs.Digits.{four-bytes}

@@ -21,7 +21,7 @@ use Rattle.refine.specs.Refine.{Burst, burst, nsym, ncell, nbits, setting, pilo
 use Rattle.refine.specs.Independence.{OwnBit, SameCell}
 use Rattle.refine.proofs.Independence.{cell-same}
 use Rattle.phy.specs.Independence.{Shared}
-use Rattle.record.specs.Bytes.{word, number}
+use Rattle.words.specs.Bytes.{word, number}
 use Rattle.record.specs.Record.{burstOf, priorOf}
 use Rattle.record.specs.Answer.{reportBytes, answerBytes, channelBytes}
 use Rattle.record.specs.Independence.{SameBytes, OwnPriors, SameLikelihoods, Independence, IndependenceBoth}

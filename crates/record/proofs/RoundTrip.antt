@@ -14,7 +14,7 @@ use Rattle.scan.specs.Fine.{all}
 use Rattle.refine.specs.declared.settings.Settings.{Settings}
 use Rattle.refine.specs.Refine.{Burst, burst}
 use Rattle.record.specs.declared.fields.Fields.{Fields}
-use Rattle.record.specs.Bytes.{wordAt}
+use Rattle.words.specs.Bytes.{wordAt}
 use Rattle.record.specs.Record.{head, fieldsOf, fields, numberAt, numbers, settingsOf, settings, burstOf, priorOf}
 use Rattle.record.specs.Layout.{headOf, headBytes, numbersLaid, laidOut, Holds, RoundTrip}
 use Rattle.record.proofs.Digits.{six-bytes, bit-back, bit-lt, digits}

@@ -6,7 +6,7 @@ use native.Mathlib.Omega.{arith}
 use lib.ListN.{length, set, take, drop, length-append, length-set, length-drop, drop-of-length-le}
 use lib.Seq.{take-at, drop-at, take-all, drop-drop, length-take-le}
 use Rattle.refine.specs.declared.whole.Refined.{Refined}
-use Rattle.record.specs.Bytes.{word, number}
+use Rattle.words.specs.Bytes.{word, number}
 use Rattle.record.specs.Answer.{reportBytes}
 
 pub length-word : (x : ℕ) → length (word x) ≡ 4
@@ -16,15 +16,6 @@ length-word x = refl
 pub length-report : (r : Refined) → length (reportBytes r) ≡ 10
 unfolding reportBytes word
 length-report r = refl
-
--- four stores
-pub stored : (l : List ℕ) (a b c d : ℕ) → length l ≡ 4 → set (set (set (set l 0 a) 1 b) 2 c) 3 d ≡ a ∷ b ∷ c ∷ d ∷ []
-stored [] a b c d h = absurd (omega arith)
-stored (x ∷ []) a b c d h = absurd (omega arith)
-stored (x ∷ y ∷ []) a b c d h = absurd (omega arith)
-stored (x ∷ y ∷ z ∷ []) a b c d h = absurd (omega arith)
-stored (x ∷ y ∷ z ∷ w ∷ []) a b c d h = refl
-stored (x ∷ y ∷ z ∷ w ∷ v ∷ l) a b c d h = absurd (omega arith)
 
 -- two stores, then two stretches of four
 pub reported : (l : List ℕ) (a b : ℕ) (v w : List ℕ) → length l ≡ 10 → length v ≡ 4 → length w ≡ 4

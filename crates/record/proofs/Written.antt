@@ -11,7 +11,7 @@ use lib.Ieee.Bits.{ofBits-toBits}
 use Rattle.seq.specs.Cat.Laws.{length-cat, getD-cat}
 use Rattle.refine.specs.declared.whole.Refined.{Refined}
 use Rattle.refine.specs.Refine.{ncell, nbits, refinedOf, answerOf, channelOf}
-use Rattle.record.specs.Bytes.{word, number}
+use Rattle.words.specs.Bytes.{word, number}
 use Rattle.record.specs.Record.{burstOf, priorOf}
 use Rattle.record.specs.Answer.{numberBytes, reportBytes, answerBytes, channelBytes}
 use Rattle.record.proofs.Digits.{four-bytes}

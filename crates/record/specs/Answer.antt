@@ -9,7 +9,7 @@ use lib.Ieee.{Float, nan}
 use Rattle.seq.specs.Cat.{cat}
 use Rattle.refine.specs.declared.whole.Refined.{Refined}
 use Rattle.refine.specs.Refine.{ncell, nbits, refinedOf, answerOf, channelOf}
-use Rattle.record.specs.Bytes.{word, number}
+use Rattle.words.specs.Bytes.{word, number}
 use Rattle.record.specs.Record.{burstOf, priorOf}
 use Rattle.record.specs.Refusals.{answerLength, channelLength, refusalIn}
 

@@ -11,7 +11,7 @@ use Rattle.phy.specs.Sizes.{ncOf, ncellOf, gridCells}
 use Rattle.scan.specs.Fine.{all}
 use Rattle.refine.specs.declared.settings.Settings.{Settings}
 use Rattle.refine.specs.Refine.{Burst}
-use Rattle.record.specs.Bytes.{number}
+use Rattle.words.specs.Bytes.{number}
 use Rattle.record.specs.Record.{burstOf, priorOf}
 
 abbrev bit : Bool → ℕ

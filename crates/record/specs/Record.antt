@@ -9,7 +9,7 @@ use Rattle.phy.specs.Sizes.{ncOf, ncellOf, gridCells}
 use Rattle.refine.specs.declared.settings.Settings.{Settings}
 use Rattle.refine.specs.Refine.{Burst, burst}
 use Rattle.record.specs.declared.fields.Fields.{Fields}
-use Rattle.record.specs.Bytes.{floatAt}
+use Rattle.words.specs.Bytes.{floatAt}
 
 -- the six bytes as one number
 unfoldable pub head : List ℕ → ℕ

@@ -3,22 +3,12 @@ ghost use mathlib.Core.Path.{_≡_};
 ghost use mathlib.Core.List.{_++_};
 ghost use Prim.Native.Nat.{_+_, _*_, _≤_};
 ghost use lib.ListN.{length, drop};
-ghost use Rattle.record.specs.Bytes.{word};
 ghost use Rattle.record.specs.Answer.{numberBytes, reportBytes};
 use refine::Refined;
-
-pub fn put_word(x: u32, out: &mut [u8])
-    requires { ⌜ length (now out) ≡ 4 ⌝ }
-    ensures { λ _. ⌜ now (out .exit) ≡ word x ⌝ }
-{
-    out[0] = (x / 0x100_0000) as u8;
-    out[1] = (x / 0x1_0000 % 256) as u8;
-    out[2] = (x / 256 % 256) as u8;
-    out[3] = (x % 256) as u8;
-}
+use words::put_word;
 
 // The numbers' patterns; a not-a-number is 7FC00000.
-pub fn put_numbers(src: &[f32], out: &mut [u8])
+pub(crate) fn put_numbers(src: &[f32], out: &mut [u8])
     requires { ⌜ 4 * length (now src) ≤ length (now out) ⌝ }
     ensures { λ _. ⌜ now (out .exit) ≡ numberBytes (length (now (src .entry))) (now (src .entry)) ++ drop (4 * length (now (src .entry))) (now (out .entry)) ⌝ }
 {
@@ -41,7 +31,7 @@ fn put_report(r: Refined, out: &mut [u8])
     put_word(r.spoilt, &mut out[6..10]);
 }
 
-pub fn put_answer(r: Refined, answer: &[f32], out: &mut [u8])
+pub(crate) fn put_answer(r: Refined, answer: &[f32], out: &mut [u8])
     requires { ⌜ (r .fd ≤ 255) × (r .tm ≤ 255) × (10 + 4 * length (now answer) ≤ length (now out)) ⌝ }
     ensures { λ _. ⌜ now (out .exit) ≡ (reportBytes r ++ numberBytes (length (now (answer .entry))) (now (answer .entry))) ++ drop (10 + 4 * length (now (answer .entry))) (now (out .entry)) ⌝ }
 {

@@ -3,7 +3,7 @@ ghost use mathlib.Core.Path.{_≡_};
 ghost use Prim.Native.Nat.{_≤_};
 ghost use lib.ListN.{length};
 ghost use Rattle.record.specs.Record as spec;
-use crate::bytes::byte_at;
+use words::byte_at;
 
 pub struct Fields {
     pub layout: u32,
@@ -17,7 +17,7 @@ pub struct Fields {
 }
 
 // The six bytes as one number.
-pub fn head(record: &[u8]) -> u64
+pub(crate) fn head(record: &[u8]) -> u64
     requires { ⌜ 6 ≤ length (now «record») ⌝ }
     ensures { λ r. ⌜ r ≡ spec.head (now («record» .entry)) ⌝ }
 {
@@ -26,7 +26,7 @@ pub fn head(record: &[u8]) -> u64
     high + middle + byte_at(record, 4) * 0x100 + byte_at(record, 5)
 }
 
-pub fn fields_of(head: u64) -> Fields
+pub(crate) fn fields_of(head: u64) -> Fields
     ensures { λ r. ⌜ r ≡ spec.fieldsOf head ⌝ }
 {
     Fields {

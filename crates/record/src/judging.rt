@@ -3,7 +3,6 @@ ghost use mathlib.Core.Path.{_≡_};
 ghost use Prim.Native.Nat.{_+_, _*_, _≤_};
 ghost use lib.ListN.{length};
 ghost use Rattle.refine.specs.Refine.{burst};
-ghost use Rattle.phy.specs.Causes.{causeNumber};
 ghost use Rattle.record.specs.Record.{settingsOf};
 ghost use Rattle.record.specs.Sizes.{sizesOf};
 ghost use Rattle.record.specs.Judging.{burstIn, priorIn, Short, Whole, Refining, InBytes, Written, Judges};
@@ -11,8 +10,8 @@ use crate::answer::put_answer;
 use crate::answer::put_numbers;
 use crate::fields::Fields;
 use crate::shape::sizes_of;
-use phy::Cause;
 use phy::Refinement;
+use phy::cause_number;
 use refine::Settings;
 
 // A record of 8,192 bytes has at most 2,043 numbers past boost, pilot gain and p_h. Cell variances and grid take ncell + 2 × ng × nc of them, so that
@@ -39,21 +38,6 @@ fn work_counts() -> [u32; 12258]
     ensures { λ r. ⌜ 12258 ≡ length r ⌝ }
 {
     [0; 12258]
-}
-
-// The number of a cause in document 01's table.
-fn cause_number(cause: Cause) -> u32
-    ensures { λ r. ⌜ r ≡ causeNumber cause ⌝ }
-{
-    match cause {
-        Cause::Layout => 1,
-        Cause::Codes => 2,
-        Cause::Symbols => 3,
-        Cause::Grid => 4,
-        Cause::Variances => 5,
-        Cause::Room => 6,
-        Cause::Numbers => 7,
-    }
 }
 
 // A refused burst leaves both outputs as they were.
@@ -145,7 +129,7 @@ fn refine_numbers(f: Fields, nums: &[f32], answer: &mut [f32], channel: &mut [f3
     )
 }
 
-pub fn judge(f: Fields, nums: &[f32], out: &mut [u8], channel: &mut [u8]) -> u32
+pub(crate) fn judge(f: Fields, nums: &[f32], out: &mut [u8], channel: &mut [u8]) -> u32
     requires { ⌜ Whole f (now nums) × (10 + 4 * sizesOf f .nbits ≤ length (now out)) × (4 * (3 * sizesOf f .ncell) ≤ length (now channel)) ⌝ }
     ensures { λ n. ⌜ Judges (burstIn f (now (nums .entry))) (priorIn f (now (nums .entry))) n
         (now (out .entry)) (now (out .exit)) (now (channel .entry)) (now (channel .exit)) ⌝ }

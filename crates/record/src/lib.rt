@@ -1,13 +1,11 @@
 // The burst record of document 01, and the C interface on it.
 mod answer;
-mod bytes;
 mod calls;
 mod fields;
 mod judging;
 mod numbers;
 mod shape;
 
-pub use bytes::word_at;
 pub use calls::refine_record;
 pub use calls::refine_record_channel;
 pub use fields::Fields;

@@ -5,9 +5,9 @@ ghost use Prim.Native.Nat.{_+_, _*_, _≤_};
 ghost use lib.ListN.{length, drop};
 ghost use Rattle.seq.specs.Tab.{tab};
 ghost use Rattle.record.specs.Record.{numberAt};
-use crate::bytes::word_at;
+use words::word_at;
 
-pub fn numbers(record: &[u8], n: usize, out: &mut [f32])
+pub(crate) fn numbers(record: &[u8], n: usize, out: &mut [f32])
     requires { ⌜ (6 + 4 * n ≤ length (now «record»)) × (n ≤ length (now out)) ⌝ }
     ensures { λ _. ⌜ now (out .exit) ≡ tab n (numberAt (now («record» .entry))) ++ drop n (now (out .entry)) ⌝ }
 {

@@ -17,7 +17,7 @@ pub struct Sizes {
     pub nbits: usize,
 }
 
-pub fn sizes_of(f: Fields) -> Sizes
+pub(crate) fn sizes_of(f: Fields) -> Sizes
     requires { ⌜ Counted (plain f) ⌝ }
     ensures { λ r. ⌜ r ≡ sizesOf f ⌝ }
 {
@@ -71,7 +71,7 @@ fn bad_length(record: &[u8], f: Fields) -> bool
 }
 
 // 0 for a record of an accepted shape, else the number of the first row that turns it away.
-pub fn shape_refusal(record: &[u8]) -> u32
+pub(crate) fn shape_refusal(record: &[u8]) -> u32
     ensures { λ r. ⌜ r ≡ shapeRefusal (now («record» .entry)) ⌝ }
 {
     if bad_record(record) {

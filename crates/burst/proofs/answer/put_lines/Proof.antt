@@ -8,7 +8,7 @@ use Rattle.seq.specs.Cat.Laws.{length-cat}
 use Rattle.burst.proofs.Putting.{puts-length, parts-none, parts-next}
 use Rattle.burst.proofs.Lengths.{length-line}
 use Rattle.seq.specs.Cat.{cat}
-use Rattle.record.specs.Bytes.{wordAt}
+use Rattle.words.specs.Bytes.{wordAt}
 use Rattle.burst.specs.Lines.{lineOf}
 use Rattle.burst.specs.Text.{Puts}
 use Rattle.burst.proofs.answer.put_lines.Statement.{statement}

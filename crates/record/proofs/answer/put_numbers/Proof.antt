@@ -7,7 +7,7 @@ use borrow.Author.Needs.{needs}
 use lib.ListN.{length, drop, getD}
 use lib.Ieee.{nan}
 use Rattle.seq.specs.Cat.Laws.{cat-none, cat-more, length-catted, lent, returned}
-use Rattle.record.specs.Bytes.{word, number}
+use Rattle.words.specs.Bytes.{word, number}
 use Rattle.record.specs.Answer.{numberBytes}
 use Rattle.record.proofs.Stored.{length-word}
 use Rattle.record.proofs.answer.put_numbers.Statement.{statement}

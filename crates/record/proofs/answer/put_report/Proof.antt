@@ -3,7 +3,7 @@ use mathlib.Core.Path.{ap, sym, _∙_}
 use native.Mathlib.Omega.{arith}
 use borrow.Author.Needs.{needs}
 use lib.ListN.{length, length-set}
-use Rattle.record.specs.Bytes.{word}
+use Rattle.words.specs.Bytes.{word}
 use Rattle.record.proofs.Stored.{report-stored, length-middle, length-report}
 use Rattle.record.proofs.answer.put_report.Statement.{statement}
 use Rattle.record.proofs.answer.put_report.Tie as tie

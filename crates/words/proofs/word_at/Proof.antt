@@ -1,9 +1,9 @@
 -- `word_at` meets its contract.
 use native.Mathlib.Omega.{arith}
-use Rattle.record.specs.Bytes.{wordAt}
+use Rattle.words.specs.Bytes.{wordAt}
 use borrow.Author.Needs.{needs}
-use Rattle.record.proofs.bytes.word_at.Statement.{statement}
-use Rattle.record.proofs.bytes.word_at.Tie as tie
+use Rattle.words.proofs.word_at.Statement.{statement}
+use Rattle.words.proofs.word_at.Tie as tie
 
 byte-at-requires : tie.Need-byte-at-requires
 byte-at-requires c κs = search needs

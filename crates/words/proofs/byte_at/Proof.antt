@@ -2,8 +2,8 @@
 use mathlib.Core.Path.{refl}
 use borrow.Author.Needs.{needs}
 use native.Mathlib.Omega.{arith}
-use Rattle.record.proofs.bytes.byte_at.Statement.{statement}
-use Rattle.record.proofs.bytes.byte_at.Tie as tie
+use Rattle.words.proofs.byte_at.Statement.{statement}
+use Rattle.words.proofs.byte_at.Tie as tie
 
 shared-slice-read-result : tie.Need-shared-slice-read-result
 shared-slice-read-result c = search needs

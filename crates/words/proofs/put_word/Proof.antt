@@ -1,9 +1,9 @@
 -- `put_word` meets its contract.
 use borrow.Author.Needs.{needs}
-use Rattle.record.specs.Bytes.{word}
-use Rattle.record.proofs.Stored.{stored}
-use Rattle.record.proofs.answer.put_word.Statement.{statement}
-use Rattle.record.proofs.answer.put_word.Tie as tie
+use Rattle.words.specs.Bytes.{word}
+use Rattle.words.proofs.Stored.{stored}
+use Rattle.words.proofs.put_word.Statement.{statement}
+use Rattle.words.proofs.put_word.Tie as tie
 
 cast-out : tie.Need-cast-out
 cast-out c = search needs

@@ -1,0 +1,4 @@
+pub mod Lists
+pub mod Order
+pub mod Listed
+pub mod Among
