@@ -42,7 +42,7 @@ fn source_folder() -> PathBuf {
 fn link_probes() {
     let folder = path_from("PROBES_DIR", "../target/staticlib");
     println!("cargo::rustc-link-search=native={}", folder.display());
-    for name in ["record", "probes", "bursts", "headers"] {
+    for name in ["record", "probes", "bursts", "headers", "asides"] {
         let library = folder.join(format!("lib{name}.a"));
         println!("cargo::rerun-if-changed={}", library.display());
         assert!(library.is_file(), "no {}: run `rt staticlib {name}` first", library.display());

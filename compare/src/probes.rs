@@ -1,6 +1,7 @@
 //! The verified functions, as their static library hands them out. Outside its domain a probe
 //! answers NaN.
 
+pub mod asides;
 pub mod cells;
 pub mod constellations;
 pub mod estimates;

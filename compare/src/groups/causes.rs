@@ -10,7 +10,8 @@ use crate::rng::Rng;
 /// A cause, and a change to an accepted call that brings it about.
 type Change = (u32, fn(&mut Call));
 
-const CHANGES: &[Change] = &[
+/// On what every entry reads and on the work area.
+pub const CHANGES: &[Change] = &[
     (1, |c| c.layout = 9),
     (1, |c| c.layout = 256),
     (1, |c| c.layout = u32::MAX),
@@ -33,10 +34,6 @@ const CHANGES: &[Change] = &[
     (5, |c| shorten(&mut c.cells)),
     (5, |c| c.cells.push(1.0)),
     (5, |c| c.cells.clear()),
-    (6, |c| shorten(&mut c.answer)),
-    (6, |c| c.answer.clear()),
-    (6, |c| shorten(&mut c.channel)),
-    (6, |c| c.channel.clear()),
     (6, |c| shorten(&mut c.wf)),
     (6, |c| c.wf.clear()),
     (6, |c| shorten(&mut c.wu)),
@@ -74,8 +71,16 @@ const CHANGES: &[Change] = &[
     (7, |c| c.p_h = f32::INFINITY),
 ];
 
+/// On the lists that only refine is lent.
+const WRITTEN: &[Change] = &[
+    (6, |c| shorten(&mut c.answer)),
+    (6, |c| c.answer.clear()),
+    (6, |c| shorten(&mut c.channel)),
+    (6, |c| c.channel.clear()),
+];
+
 /// Changes that no row turns away.
-const FINE: &[fn(&mut Call)] = &[
+pub const FINE: &[fn(&mut Call)] = &[
     |_| {},
     |c| c.boost = 0.125,
     |c| c.boost = 8.0,
@@ -119,9 +124,10 @@ pub fn compare() -> Tally {
             change(&mut c);
             t.same("accepted", &[layout as u64, i as u64], c.refine(), 0);
         }
-        for (i, one) in CHANGES.iter().enumerate() {
+        let changes = || CHANGES.iter().chain(WRITTEN).enumerate();
+        for (i, one) in changes() {
             refused(&mut t, &c, one.0, &[layout as u64, i as u64], &[one]);
-            for (j, other) in CHANGES.iter().enumerate() {
+            for (j, other) in changes() {
                 if one.0 != other.0 {
                     refused(&mut t, &c, one.0.min(other.0), &[layout as u64, i as u64, j as u64], &[one, other]);
                 }
@@ -144,6 +150,7 @@ fn refused(t: &mut Tally, accepted: &Call, number: u32, args: &[u64], changes: &
     t.same("report", args, c.report == before.report && c.scale == before.scale, true);
 }
 
-fn same(a: &[f32], b: &[f32]) -> bool {
+/// Bit for bit, every NaN its own.
+pub fn same(a: &[f32], b: &[f32]) -> bool {
     a.len() == b.len() && a.iter().zip(b).all(|(x, y)| x.to_bits() == y.to_bits())
 }

@@ -1,5 +1,6 @@
 //! The comparison, one file a group. A new group is a file here and a line in `ALL`.
 
+mod asides;
 pub mod burst_lengths;
 pub mod bursts;
 mod causes;
@@ -68,6 +69,10 @@ const ALL: &[fn() -> Tally] = &[
     headers::compare_crc,
     headers::compare_written,
     headers::compare_parsed,
+    asides::compare_fde,
+    asides::compare_decide,
+    asides::compare_power,
+    asides::compare_single,
 ];
 
 /// Runs every group, two at a time, and answers them in their order.

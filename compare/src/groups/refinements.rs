@@ -42,7 +42,7 @@ pub struct Met {
 }
 
 /// `shape` counts layout, constellation, pattern and spreading.
-fn burst(rng: &mut Rng, shape: usize, nsym: u16, extreme: bool) -> Burst {
+pub fn burst(rng: &mut Rng, shape: usize, nsym: u16, extreme: bool) -> Burst {
     let mut b = Burst::plain(shape / 16, (shape / 4 % 4) as u8, nsym);
     (b.sparse, b.spread) = (shape & 2 != 0, shape & 1 != 0);
     fill(rng, &mut b, extreme);

@@ -79,7 +79,7 @@ fn foreign(t: &mut Tally, rng: &mut Rng, m: usize) {
     }
 }
 
-fn complex(flat: &[f32]) -> Vec<Complex> {
+pub fn complex(flat: &[f32]) -> Vec<Complex> {
     flat.chunks_exact(2).map(|z| Complex::new(z[0], z[1])).collect()
 }
 
