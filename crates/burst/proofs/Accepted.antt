@@ -8,9 +8,10 @@ use native.Mathlib.Omega.{arith}
 use borrow.Author.Tests.{eq-eqb, ne-eqb, le-leb}
 use lib.Dec.{eqb, leb}
 use Rattle.refine.specs.Refine.{nbits}
-use Rattle.record.specs.Record.{burstOf}
-use Rattle.record.specs.Refusals.{shapeRefusal, refusalIn, bitsOf, answerLength}
-use Rattle.record.proofs.Shaped.{shaped}
+use Rattle.wire.specs.Record.{burstOf}
+use Rattle.wire.specs.Shape.{shapeRefusal, bitsOf, answerLength}
+use Rattle.record.specs.Refusals.{refusalIn}
+use Rattle.wire.proofs.Shaped.{shaped}
 
 module _ (rec : List ℕ) where
   shape-fits : (room : Bool) → refusalIn rec room ≡ 0 → shapeRefusal rec ≡ 0

@@ -14,9 +14,11 @@ use Rattle.seq.specs.Cat.Laws.{cat-same}
 use Rattle.refine.specs.declared.whole.Refined.{Refined}
 use Rattle.refine.specs.Refine.{nbits, refinedOf, answerOf}
 use Rattle.words.specs.Bytes.{wordAt, word}
-use Rattle.record.specs.Record.{burstOf, priorOf}
-use Rattle.record.specs.Refusals.{refusalIn, bitsOf, answerLength}
-use Rattle.record.specs.Answer.{reportBytes, numberBytes, answerBytes, Answers}
+use Rattle.wire.specs.Record.{burstOf, priorOf}
+use Rattle.wire.specs.Shape.{bitsOf, answerLength}
+use Rattle.record.specs.Refusals.{refusalIn}
+use Rattle.wire.specs.Bytes.{reportBytes, numberBytes}
+use Rattle.record.specs.Answer.{answerBytes, Answers}
 use Rattle.burst.specs.Text.{put, Puts}
 use Rattle.burst.specs.Lines.{lineOf, headingOf, heading, likelihoodLines, refusedOf, answerLines, linesOf, Printed}
 use Rattle.burst.proofs.Reading.{word-past, word-of}

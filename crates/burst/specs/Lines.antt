@@ -10,7 +10,7 @@ use Rattle.seq.specs.Cat.{cat}
 use Rattle.refine.specs.declared.whole.Refined.{Refined}
 use Rattle.refine.specs.Refine.{nbits, refinedOf, answerOf}
 use Rattle.words.specs.Bytes.{wordAt}
-use Rattle.record.specs.Record.{burstOf, priorOf}
+use Rattle.wire.specs.Record.{burstOf, priorOf}
 use Rattle.record.specs.Refusals.{refusalIn}
 use Rattle.burst.specs.Digits.{decimal, hex8}
 

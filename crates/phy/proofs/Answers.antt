@@ -7,11 +7,12 @@ use lib.Ieee.{Float}
 use Rattle.refine.specs.declared.whole.Refined.{Refined}
 use Rattle.refine.specs.Refine as core
 use Rattle.refine.specs.Refine.{Burst}
-use Rattle.phy.specs.declared.causes.Cause.{Cause}
-use Rattle.phy.specs.declared.causes.Cause.the-variants.{Layout, Codes, Symbols, Grid, Variances, Room, Numbers}
+use Rattle.table.specs.declared.causes.Cause.{Cause}
+use Rattle.table.specs.declared.causes.Cause.the-variants.{Layout, Codes, Symbols, Grid, Variances, Room, Numbers}
 use Rattle.phy.specs.declared.refinement.Refinement.the-variants.{Accepted, Refused}
-use Rattle.phy.specs.Causes.{causeNumber}
-use Rattle.phy.specs.Entry.{refusalIn, Refining}
+use Rattle.table.specs.Causes.{causeNumber}
+use Rattle.phy.specs.Entry.{Refining}
+use Rattle.table.specs.Refusals.{refusalIn}
 
 -- no cause has the number 0
 pub some-cause : (cause : Cause) → 1 ≤ causeNumber cause

@@ -6,12 +6,13 @@ use mathlib.Core.List.{[], _∷_}
 use lib.ListN.{getD}
 use lib.Dec.{eqb}
 use borrow.Author.Tests.{eqb-true, eqb-false}
-use Rattle.phy.specs.declared.causes.Cause.{Cause}
-use Rattle.phy.specs.declared.causes.Cause.the-variants.{Layout, Codes, Symbols, Grid, Variances, Room, Numbers}
+use Rattle.table.specs.declared.causes.Cause.{Cause}
+use Rattle.table.specs.declared.causes.Cause.the-variants.{Layout, Codes, Symbols, Grid, Variances, Room, Numbers}
 use Rattle.phy.specs.declared.refinement.Refinement.{Refinement}
 use Rattle.phy.specs.declared.refinement.Refinement.the-variants.{Accepted, Refused}
-use Rattle.phy.specs.Causes.{causeNumber}
-use Rattle.phy.specs.Entry.{numberOf, refusalIn, Fixed}
+use Rattle.table.specs.Causes.{causeNumber}
+use Rattle.phy.specs.Entry.{numberOf, Fixed}
+use Rattle.table.specs.Refusals.{refusalIn}
 
 -- the cause of a number; 0 is none
 abbrev named : ℕ → Cause

@@ -1,12 +1,6 @@
 -- Laws of the definitions, for the proofs here and in the crates above.
-pub mod Bounded
-pub mod Room
-pub mod Passing
-pub mod Exact
-pub mod Accepting
 pub mod Answers
 pub mod Fixing
 pub mod OwnPriors
-pub mod AtEdges
 pub mod WorkOnly
 pub mod Measured

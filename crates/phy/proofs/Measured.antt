@@ -13,13 +13,13 @@ use Rattle.est.specs.declared.combine.Estimate.{Estimate}
 use Rattle.refine.specs.declared.settings.Settings.{Settings}
 use Rattle.refine.specs.Refine.{Burst}
 use Rattle.channel.specs.Channel.{powerOf, singleOf}
-use Rattle.phy.specs.declared.causes.Cause.{Cause}
+use Rattle.table.specs.declared.causes.Cause.{Cause}
 use Rattle.phy.specs.declared.power.Power.the-variants as power
 use Rattle.phy.specs.declared.single.Single.{Single}
 use Rattle.phy.specs.declared.single.Single.the-variants as single
-use Rattle.phy.specs.Causes.{causeNumber}
+use Rattle.table.specs.Causes.{causeNumber}
 use Rattle.phy.specs.Channels.{badPlace, singleNumber, refusalWithin, refusalAt, Measuring, Estimating, Placed}
-use Rattle.phy.specs.Sizes.{ncOf}
+use Rattle.table.specs.Sizes.{ncOf}
 use Rattle.scan.proofs.Tests.{true-false, neither}
 use Rattle.phy.proofs.Answers.{some-cause}
 

@@ -11,7 +11,7 @@ use Rattle.refine.specs.Independence as core-independence
 use Rattle.refine.proofs.Independence.{independence}
 use Rattle.phy.specs.declared.refinement.Refinement.the-variants.{Accepted}
 use Rattle.phy.specs.Independence.{Shared, Accepts, Independence}
-use Rattle.phy.proofs.Passing.{accepted-fits}
+use Rattle.table.proofs.Passing.{accepted-fits}
 
 same-burst : (b b′ : Burst) → Shared b b′ → b ≡ b′
 same-burst b b′ s = parts (s .settings) (s .grid) (s .sigma) (s .cells)

@@ -10,12 +10,12 @@ use borrow.Author.Tests.{le-leb}
 use Rattle.refine.specs.declared.settings.Settings.{Settings}
 use Rattle.refine.specs.Refine.{Burst}
 use Rattle.channel.specs.Channel.{Fit}
-use Rattle.phy.specs.Sizes.{ncellOf, nbitsOf}
-use Rattle.phy.specs.Rows.{badSymbols, roomFor}
-use Rattle.phy.specs.Refusals.{refusalOf}
+use Rattle.table.specs.Sizes.{ncellOf, nbitsOf}
+use Rattle.table.specs.Rows.{badSymbols, roomFor}
+use Rattle.table.specs.Refusals.{refusalOf}
 use Rattle.phy.specs.Channels.{workRoom, refusalWithin}
-use Rattle.phy.proofs.Bounded.{small}
-use Rattle.phy.proofs.Passing.{counted, accepted-fits}
+use Rattle.table.proofs.Bounded.{small}
+use Rattle.table.proofs.Passing.{counted, accepted-fits}
 
 -- the other two lists are long enough
 room-is : (s : Settings) (answer channel wf wu : ℕ) → nbitsOf s ≤ answer → 3 * ncellOf s ≤ channel

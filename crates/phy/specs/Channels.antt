@@ -15,9 +15,9 @@ use Rattle.phy.specs.declared.power.Power.{Power}
 use Rattle.phy.specs.declared.power.Power.the-variants as power
 use Rattle.phy.specs.declared.single.Single.{Single}
 use Rattle.phy.specs.declared.single.Single.the-variants as single
-use Rattle.phy.specs.Causes.{causeNumber}
-use Rattle.phy.specs.Sizes.{ncOf, workLength}
-use Rattle.phy.specs.Refusals.{refusalOf}
+use Rattle.table.specs.Causes.{causeNumber}
+use Rattle.table.specs.Sizes.{ncOf, workLength}
+use Rattle.table.specs.Refusals.{refusalOf}
 
 module _ (s : Settings) where
   -- 6, where this does not hold: room in both lists of the work area

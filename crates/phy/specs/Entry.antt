@@ -2,27 +2,17 @@
 use Prim.Native.Nat.{ℕ, _*_}
 use mathlib.Core.Path.{_≡_}
 use mathlib.Core.List.{List, _++_}
-use lib.ListN.{length, drop}
+use lib.ListN.{drop}
 use lib.Ieee.{Float}
 use Rattle.refine.specs.Refine.{Burst, nbits, ncell, refinedOf, answerOf, channelOf}
-use Rattle.phy.specs.declared.causes.Lent.{Lent}
 use Rattle.phy.specs.declared.refinement.Refinement.{Refinement}
 use Rattle.phy.specs.declared.refinement.Refinement.the-variants.{Accepted, Refused}
-use Rattle.phy.specs.Causes.{causeNumber}
-use Rattle.phy.specs.Rows.{roomFor}
-use Rattle.phy.specs.Refusals.{refusalOf}
+use Rattle.table.specs.Causes.{causeNumber}
+use Rattle.table.specs.Refusals.{refusalIn}
 
 abbrev pub numberOf : Refinement → ℕ
 numberOf (Accepted refined) = 0
 numberOf (Refused cause) = causeNumber cause
-
--- how long the lists are that are lent to be written
-abbrev pub lent : (answer channel wf : List Float) → (wu : List ℕ) → Lent
-lent answer channel wf wu = record { answer = length answer; channel = length channel; wf = length wf; wu = length wu }
-
--- the table's number for a call of `refine`
-abbrev pub refusalIn : Burst → (prior answer channel wf : List Float) → (wu : List ℕ) → ℕ
-refusalIn b prior answer channel wf wu = refusalOf b prior (roomFor (b .settings) (lent answer channel wf wu))
 
 -- what was written, in front of what the lists held
 pub record Refines (b : Burst) (prior : List Float) (r : Refinement) (answer₀ answer₁ channel₀ channel₁ : List Float) : Type 0 where

@@ -1,9 +1,3 @@
-pub mod Causes
-pub mod Sizes
-pub mod Rows
-pub mod Refusals
 pub mod Entry
-pub mod Table
-pub mod Edges
 pub mod Independence
 pub mod Channels

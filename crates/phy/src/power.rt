@@ -1,10 +1,10 @@
 // est.rs, `channel_power`, for any numbers at all.
 ghost use Rattle.refine.specs.Refine.{burst};
 ghost use Rattle.phy.specs.Channels.{Measuring};
-use crate::causes::Cause;
-use crate::causes::Verdict;
 use crate::work::work_verdict;
 use refine::Settings;
+use table::Cause;
+use table::Verdict;
 
 pub enum Power {
     Accepted(f32),

@@ -1,12 +1,12 @@
 // `BurstGrid::refine` for any numbers at all.
 ghost use Rattle.refine.specs.Refine.{burst};
 ghost use Rattle.phy.specs.Entry.{Refining};
-use crate::causes::Cause;
-use crate::causes::Lent;
-use crate::causes::Verdict;
-use crate::refusal::verdict;
 use refine::Refined;
 use refine::Settings;
+use table::Cause;
+use table::Lent;
+use table::Verdict;
+use table::verdict;
 
 pub enum Refinement {
     Accepted(Refined),

@@ -2,14 +2,14 @@
 ghost use mathlib.Core.Path.{_≡_};
 ghost use Rattle.refine.specs.Refine.{burst};
 ghost use Rattle.channel.specs.Channel.{Fit};
-ghost use Rattle.phy.specs.Sizes.{Counted};
+ghost use Rattle.table.specs.Sizes.{Counted};
 ghost use Rattle.phy.specs.Channels.{badPlace, Placed, Estimating};
-use crate::causes::Cause;
-use crate::causes::Verdict;
-use crate::sizes::nc;
 use crate::work::work_verdict;
 use est::Estimate;
 use refine::Settings;
+use table::Cause;
+use table::Verdict;
+use table::nc;
 
 pub enum Single {
     Accepted(Estimate),

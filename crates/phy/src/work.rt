@@ -1,13 +1,13 @@
 // The table of causes for an entry that is lent the work area only.
 ghost use mathlib.Core.Path.{_≡_};
 ghost use Rattle.refine.specs.Refine.{burst};
-ghost use Rattle.phy.specs.Causes.{verdictNumber};
-ghost use Rattle.phy.specs.Refusals.{refusalOf};
+ghost use Rattle.table.specs.Causes.{verdictNumber};
+ghost use Rattle.table.specs.Refusals.{refusalOf};
 ghost use Rattle.phy.specs.Channels.{workRoom};
-use crate::causes::Lent;
-use crate::causes::Verdict;
-use crate::refusal::verdict;
 use refine::Settings;
+use table::Lent;
+use table::Verdict;
+use table::verdict;
 
 // wf and wu are how many numbers its two lists have.
 pub(crate) fn work_verdict(

@@ -6,12 +6,13 @@ use mathlib.Core.List.{List}
 use native.Mathlib.Omega.{arith}
 use lib.Dec.{eqb, eqb·suc-zero}
 use Rattle.refine.specs.Refine.{nsym}
-use Rattle.phy.specs.Refusals.{refusalOf}
-use Rattle.phy.specs.Table.{rows}
-use Rattle.phy.proofs.Passing.{counted}
-use Rattle.phy.proofs.Exact.{exact}
-use Rattle.record.specs.Record.{burstOf, priorOf}
-use Rattle.record.specs.Refusals.{refusalIn, shapeRefusal}
+use Rattle.table.specs.Refusals.{refusalOf}
+use Rattle.table.specs.Table.{rows}
+use Rattle.table.proofs.Passing.{counted}
+use Rattle.table.proofs.Exact.{exact}
+use Rattle.wire.specs.Record.{burstOf, priorOf}
+use Rattle.wire.specs.Shape.{shapeRefusal}
+use Rattle.record.specs.Refusals.{refusalIn}
 
 -- no number of either is left
 neither : (y x : ℕ) → cond (eqb y 0) x y ≡ 0 → (y ≡ 0) × (x ≡ 0)

@@ -12,17 +12,17 @@ use lib.Ieee.Fits.{and-i}
 use Rattle.ieee.specs.Num.{zero32, one32}
 use Rattle.ieee.specs.Order.{isFinite}
 use Rattle.refine.specs.declared.settings.Settings.{Settings}
-use Rattle.phy.specs.Sizes.{ncOf, ncellOf, gridCells, nbitsOf, workLength}
+use Rattle.table.specs.Sizes.{ncOf, ncellOf, gridCells, nbitsOf, workLength}
 use Rattle.scan.specs.Fine.{all, isVariance}
-use Rattle.phy.specs.Rows.{badSettings, badNumbers, roomFor}
-use Rattle.phy.specs.Refusals.{refusalOf}
-use Rattle.phy.specs.Entry.{lent}
-use Rattle.phy.specs.Table as lists
-use Rattle.phy.specs.Table.{plain, silent, blank}
+use Rattle.table.specs.Rows.{badSettings, badNumbers, roomFor}
+use Rattle.table.specs.Refusals.{refusalOf}
+use Rattle.table.specs.Refusals.{lent}
+use Rattle.table.specs.Table as lists
+use Rattle.table.specs.Table.{plain, silent, blank}
 use Rattle.scan.proofs.Tests.{true-false}
-use Rattle.phy.proofs.Exact as lists-exact
-use Rattle.phy.proofs.Accepting as lists-accepting
-use Rattle.record.specs.Layout.{Holds}
+use Rattle.table.proofs.Exact as lists-exact
+use Rattle.table.proofs.Accepting as lists-accepting
+use Rattle.wire.specs.Layout.{Holds}
 use Rattle.record.specs.Table.{silentRecord, SomeAccepted}
 use Rattle.record.proofs.AsLists.{length-laid, laid-out}
 

@@ -8,14 +8,15 @@ use borrow.Author.Tests.{le-leb, lt-leb, eq-eqb, ne-eqb, eqb-true}
 use lib.ListN.{length}
 use lib.Dec.{leb, eqb}
 use Rattle.seq.specs.Tab.Laws.{length-tab}
-use Rattle.phy.specs.Rows.{badLayout, badCodes, badSymbols, badGrid, badVariances}
-use Rattle.phy.specs.Sizes.{ncOf, ncellOf, gridCells}
-use Rattle.phy.specs.Refusals.{refusalOf}
-use Rattle.record.specs.Record.{settings, burstOf, priorOf, numberAt, numbers}
-use Rattle.record.specs.Refusals.{badRecord, badLength, shapeRefusal, refusalIn, answerLength, channelLength}
+use Rattle.table.specs.Rows.{badLayout, badCodes, badSymbols, badGrid, badVariances}
+use Rattle.table.specs.Sizes.{ncOf, ncellOf, gridCells}
+use Rattle.table.specs.Refusals.{refusalOf}
+use Rattle.wire.specs.Record.{settings, burstOf, priorOf, numberAt, numbers}
+use Rattle.wire.specs.Shape.{badRecord, badLength, shapeRefusal, answerLength, channelLength}
+use Rattle.record.specs.Refusals.{refusalIn}
 use Rattle.record.specs.Answer.{answerBytes, channelBytes, Answers, AnswersBoth}
 use Rattle.record.specs.Judging.{Judges}
-use Rattle.record.proofs.Shaped.{passed, shaped}
+use Rattle.wire.proofs.Shaped.{passed, shaped}
 
 module _ (rec : List ℕ) where
   -- a record's lists have the lengths that its fields give

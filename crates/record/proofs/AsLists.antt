@@ -11,14 +11,15 @@ use borrow.Author.Tests.{eq-eqb, le-ltb}
 use Rattle.seq.specs.Tab.Laws.{length-tab}
 use Rattle.refine.specs.declared.settings.Settings.{Settings}
 use Rattle.refine.specs.Refine.{Burst}
-use Rattle.phy.specs.Rows.{badLayout, badCodes, badSymbols}
-use Rattle.phy.specs.Refusals.{refusalOf}
-use Rattle.record.specs.Record.{head, padding, fields, settings, burstOf, priorOf, countOf}
-use Rattle.record.specs.Layout.{headOf, headBytes, laidOut, Holds}
-use Rattle.record.specs.Refusals.{badRecord, badLength, shapeRefusal, refusalIn}
+use Rattle.table.specs.Rows.{badLayout, badCodes, badSymbols}
+use Rattle.table.specs.Refusals.{refusalOf}
+use Rattle.wire.specs.Record.{head, padding, fields, settings, burstOf, priorOf, countOf}
+use Rattle.wire.specs.Layout.{headOf, headBytes, laidOut, Holds}
+use Rattle.wire.specs.Shape.{badRecord, badLength, shapeRefusal}
+use Rattle.record.specs.Refusals.{refusalIn}
 use Rattle.record.specs.Table.{AsLists}
-use Rattle.record.proofs.Digits.{six-bytes}
-use Rattle.record.proofs.RoundTrip.{round-trip}
+use Rattle.wire.proofs.Digits.{six-bytes}
+use Rattle.wire.proofs.RoundTrip.{round-trip}
 use Rattle.record.proofs.Written.{length-word, length-numbers}
 
 -- ---- the bytes of a burst laid out

@@ -11,14 +11,14 @@ use Rattle.seq.specs.Tab.Laws.{length-tab, getD-tab, tab-only}
 use Rattle.refine.specs.declared.settings.Settings.{Settings}
 use Rattle.refine.specs.Refine.{burst, nbits, ncell}
 use Rattle.phy.specs.declared.refinement.Refinement.{Refinement}
-use Rattle.phy.specs.Sizes.{Counted}
-use Rattle.record.specs.declared.fields.Fields.{Fields}
-use Rattle.record.specs.declared.shape.Sizes.{Sizes}
-use Rattle.record.specs.Record.{head, fieldsOf, fields, settings, settingsOf, numberAt, burstOf, priorOf, countOf}
-use Rattle.record.specs.Sizes.{plain, sizesOf}
+use Rattle.table.specs.Sizes.{Counted}
+use Rattle.wire.specs.declared.fields.Fields.{Fields}
+use Rattle.wire.specs.declared.shape.Sizes.{Sizes}
+use Rattle.wire.specs.Record.{head, fieldsOf, fields, settings, settingsOf, numberAt, burstOf, priorOf, countOf}
+use Rattle.wire.specs.Sizes.{plain, sizesOf}
 use Rattle.record.specs.Judging.{settingsIn, burstIn, priorIn, Short, Whole, Refining, Judges}
-use Rattle.record.proofs.Reading.{same-sizes, counted-numbers}
-use Rattle.record.proofs.Shaped.{Shaped, counting}
+use Rattle.wire.proofs.Reading.{same-sizes, counted-numbers}
+use Rattle.wire.proofs.Shaped.{Shaped, counting}
 
 -- k elements from place a
 part-tab : (n a k : ℕ) (f : ℕ → Float) → a + k ≤ n → take k (drop a (tab n f)) ≡ tab k (λ i. f (a + i))

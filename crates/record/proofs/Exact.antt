@@ -9,13 +9,14 @@ use lib.ListN.{length, getD}
 use lib.Dec.{eqb}
 use borrow.Author.Tests.{eq-eqb, le-ltb}
 use Rattle.seq.specs.Tab.Laws.{length-tab}
-use Rattle.phy.specs.Sizes.{ncOf, ncellOf, gridCells}
-use Rattle.phy.specs.Rows.{badLayout, badCodes, badSymbols, badGrid, badVariances, badNumbers}
-use Rattle.phy.specs.Refusals.{refusalOf}
-use Rattle.phy.specs.Table.{First}
+use Rattle.table.specs.Sizes.{ncOf, ncellOf, gridCells}
+use Rattle.table.specs.Rows.{badLayout, badCodes, badSymbols, badGrid, badVariances, badNumbers}
+use Rattle.table.specs.Refusals.{refusalOf}
+use Rattle.table.specs.Table.{First}
 use Rattle.scan.proofs.Tests.{true-false}
-use Rattle.record.specs.Record.{fields, fieldsOf, settings, settingsOf, burstOf, priorOf}
-use Rattle.record.specs.Refusals.{badRecord, badLength, shapeRefusal, refusalIn}
+use Rattle.wire.specs.Record.{fields, fieldsOf, settings, settingsOf, burstOf, priorOf}
+use Rattle.wire.specs.Shape.{badRecord, badLength, shapeRefusal}
+use Rattle.record.specs.Refusals.{refusalIn}
 use Rattle.record.specs.Table.{rows, rowNumbers, Exact}
 
 -- ---- the first true test's number, or 0

@@ -11,11 +11,12 @@ use Rattle.layout.specs.Layouts.{layouts, layoutOf, quarter}
 use Rattle.layout.specs.Sizes.{patternOf, dataCarriersOf}
 use Rattle.layout.specs.Patterns.{pilotsOf}
 use Rattle.refine.specs.Refine.{nbits}
-use Rattle.phy.specs.Table.{plain}
+use Rattle.table.specs.Table.{plain}
 use Rattle.scan.proofs.Tests.{neither}
-use Rattle.record.specs.Record.{head, fields, fieldsOf, settings, settingsOf, burstOf, countOf}
-use Rattle.record.specs.Layout.{headOf, headBytes, laidOut}
-use Rattle.record.specs.Refusals.{badRecord, badLength, refusalIn, bitsOf}
+use Rattle.wire.specs.Record.{head, fields, fieldsOf, settings, settingsOf, burstOf, countOf}
+use Rattle.wire.specs.Layout.{headOf, headBytes, laidOut}
+use Rattle.wire.specs.Shape.{badRecord, badLength, bitsOf}
+use Rattle.record.specs.Refusals.{refusalIn}
 use Rattle.record.specs.Table.{rows, SomeAccepted}
 use Rattle.record.specs.Examples.{example, printed, Printed, Longest}
 use Rattle.record.proofs.Accepted.{no-shape}

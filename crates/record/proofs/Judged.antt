@@ -18,15 +18,16 @@ use Rattle.model.proofs.First.{in-range}
 use Rattle.refine.specs.declared.settings.Settings.{Settings}
 use Rattle.refine.specs.declared.whole.Refined.{Refined}
 use Rattle.refine.specs.Refine.{Burst, setting, pilots, starts, model, nbits, ncell, refinedOf, answerOf, channelOf}
-use Rattle.phy.specs.declared.causes.Cause.{Cause}
-use Rattle.phy.specs.declared.causes.Lent.{Lent}
+use Rattle.table.specs.declared.causes.Cause.{Cause}
+use Rattle.table.specs.declared.causes.Lent.{Lent}
 use Rattle.phy.specs.declared.refinement.Refinement.{Refinement}
 use Rattle.phy.specs.declared.refinement.Refinement.the-variants.{Accepted, Refused}
-use Rattle.phy.specs.Causes.{causeNumber}
-use Rattle.phy.specs.Rows.{roomFor}
+use Rattle.table.specs.Causes.{causeNumber}
+use Rattle.table.specs.Rows.{roomFor}
+use Rattle.table.specs.Refusals.{lent}
 use Rattle.phy.specs.Entry as phy
 use Rattle.phy.specs.Entry.{numberOf}
-use Rattle.record.specs.Answer.{numberBytes, reportBytes}
+use Rattle.wire.specs.Bytes.{numberBytes, reportBytes}
 use Rattle.record.specs.Judging.{Short, Refining, InBytes, answerAfter, channelAfter, Written, Judges}
 
 -- ---- with its own work area
@@ -39,7 +40,7 @@ pub alone : (b : Burst) (prior : List Float) (r : Refinement) (answer₀ answer�
     → Short (b .settings) → length answer₀ ≡ 4086 → length channel₀ ≡ 2043 → length wf₀ ≡ 12258 → length wu₀ ≡ 12258
     → phy.Refining b prior r answer₀ answer₁ channel₀ channel₁ wf₀ wf₁ wu₀ wu₁ → Refining b prior r answer₀ answer₁ channel₀ channel₁
 alone b prior r answer₀ answer₁ channel₀ channel₁ wf₀ wf₁ wu₀ wu₁ h a c f u p =
-    let e = roomy (b .settings) (phy.lent answer₀ channel₀ wf₀ wu₀) h a c f u in
+    let e = roomy (b .settings) (lent answer₀ channel₀ wf₀ wu₀) h a c f u in
     record { number = rw e at (p .number); accepted = rw e at (p .accepted) }
 
 -- ---- each index is a byte

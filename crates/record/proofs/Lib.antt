@@ -1,10 +1,4 @@
 -- Laws of the definitions, for the proofs here and in the crates above.
-pub mod Reading
-pub mod Rows
-pub mod Shaped
-pub mod Digits
-pub mod Laid
-pub mod RoundTrip
 pub mod Written
 pub mod Accepted
 pub mod OwnPriors
@@ -12,7 +6,6 @@ pub mod Exact
 pub mod AsLists
 pub mod Accepting
 pub mod Examples
-mod Stored
 mod Cutting
 mod Judged
 mod Answering

@@ -22,8 +22,9 @@ use Rattle.refine.specs.Independence.{OwnBit, SameCell}
 use Rattle.refine.proofs.Independence.{cell-same}
 use Rattle.phy.specs.Independence.{Shared}
 use Rattle.words.specs.Bytes.{word, number}
-use Rattle.record.specs.Record.{burstOf, priorOf}
-use Rattle.record.specs.Answer.{reportBytes, answerBytes, channelBytes}
+use Rattle.wire.specs.Record.{burstOf, priorOf}
+use Rattle.wire.specs.Bytes.{reportBytes}
+use Rattle.record.specs.Answer.{answerBytes, channelBytes}
 use Rattle.record.specs.Independence.{SameBytes, OwnPriors, SameLikelihoods, Independence, IndependenceBoth}
 use Rattle.record.proofs.Written.{same-word, same-pattern, report-at, likelihood-at, channel-at}
 use Rattle.record.proofs.Accepted.{few}

@@ -12,9 +12,10 @@ use Rattle.seq.specs.Cat.Laws.{length-cat, getD-cat}
 use Rattle.refine.specs.declared.whole.Refined.{Refined}
 use Rattle.refine.specs.Refine.{ncell, nbits, refinedOf, answerOf, channelOf}
 use Rattle.words.specs.Bytes.{word, number}
-use Rattle.record.specs.Record.{burstOf, priorOf}
-use Rattle.record.specs.Answer.{numberBytes, reportBytes, answerBytes, channelBytes}
-use Rattle.record.proofs.Digits.{four-bytes}
+use Rattle.wire.specs.Record.{burstOf, priorOf}
+use Rattle.wire.specs.Bytes.{numberBytes, reportBytes}
+use Rattle.record.specs.Answer.{answerBytes, channelBytes}
+use Rattle.wire.proofs.Digits.{four-bytes}
 
 -- ---- a number
 

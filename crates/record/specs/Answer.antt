@@ -2,24 +2,14 @@
 use Prim.Native.Nat.{ℕ, _*_}
 use mathlib.Core.Path.{_≡_}
 use mathlib.Core.Bool.{_&&_}
-use mathlib.Core.List.{List, _∷_, _++_}
-use lib.ListN.{length, drop, getD}
+use mathlib.Core.List.{List, _++_}
+use lib.ListN.{length, drop}
 use lib.Dec.{leb}
-use lib.Ieee.{Float, nan}
-use Rattle.seq.specs.Cat.{cat}
-use Rattle.refine.specs.declared.whole.Refined.{Refined}
 use Rattle.refine.specs.Refine.{ncell, nbits, refinedOf, answerOf, channelOf}
-use Rattle.words.specs.Bytes.{word, number}
-use Rattle.record.specs.Record.{burstOf, priorOf}
-use Rattle.record.specs.Refusals.{answerLength, channelLength, refusalIn}
-
--- the first n numbers in bytes
-abbrev pub numberBytes : (n : ℕ) → List Float → List ℕ
-numberBytes n xs = cat n (λ i. number (getD xs i nan))
-
--- two model indices of a byte, scale and spoilt count of four
-unfoldable pub reportBytes : Refined → List ℕ
-reportBytes r = (r .fd) ∷ (r .tm) ∷ (number (r .scale) ++ word (r .spoilt))
+use Rattle.wire.specs.Record.{burstOf, priorOf}
+use Rattle.wire.specs.Shape.{answerLength, channelLength}
+use Rattle.wire.specs.Bytes.{numberBytes, reportBytes}
+use Rattle.record.specs.Refusals.{refusalIn}
 
 module _ (rec : List ℕ) where
   -- the report, then the likelihoods in bit order

@@ -4,9 +4,10 @@ use mathlib.Core.Path.{_≡_}
 use mathlib.Core.Bool.{Bool, true, false}
 use mathlib.Core.List.{List, [], _∷_}
 use lib.ListN.{length, take}
-use Rattle.phy.specs.Table.{plain}
-use Rattle.record.specs.Record.{fields, countOf}
-use Rattle.record.specs.Refusals.{refusalIn, bitsOf}
+use Rattle.table.specs.Table.{plain}
+use Rattle.wire.specs.Record.{fields, countOf}
+use Rattle.wire.specs.Shape.{bitsOf}
+use Rattle.record.specs.Refusals.{refusalIn}
 use Rattle.record.specs.Table.{silentRecord}
 
 -- layout 7, nsym 1, k 20, so many priors

@@ -7,7 +7,7 @@ use lib.ListN.{getD}
 use Rattle.refine.specs.Refine.{ncell, nbits}
 use Rattle.refine.specs.Independence.{OwnBit, SameBut}
 use Rattle.phy.specs.Independence.{Shared}
-use Rattle.record.specs.Record.{burstOf, priorOf}
+use Rattle.wire.specs.Record.{burstOf, priorOf}
 use Rattle.record.specs.Answer.{Answers, AnswersBoth}
 
 -- n bytes from place a are the same

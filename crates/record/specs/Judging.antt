@@ -9,13 +9,13 @@ use Rattle.refine.specs.declared.settings.Settings.{Settings}
 use Rattle.refine.specs.Refine.{Burst, burst, ncell, nbits, refinedOf, answerOf, channelOf}
 use Rattle.phy.specs.declared.refinement.Refinement.{Refinement}
 use Rattle.phy.specs.declared.refinement.Refinement.the-variants.{Accepted, Refused}
-use Rattle.phy.specs.Sizes.{Counted, ncellOf, nbitsOf, workLength}
-use Rattle.phy.specs.Refusals.{refusalOf}
+use Rattle.table.specs.Sizes.{Counted, ncellOf, nbitsOf, workLength}
+use Rattle.table.specs.Refusals.{refusalOf}
 use Rattle.phy.specs.Entry.{numberOf, Refines}
-use Rattle.record.specs.declared.fields.Fields.{Fields}
-use Rattle.record.specs.Record.{settingsOf}
-use Rattle.record.specs.Sizes.{plain, sizesOf}
-use Rattle.record.specs.Answer.{numberBytes, reportBytes}
+use Rattle.wire.specs.declared.fields.Fields.{Fields}
+use Rattle.wire.specs.Record.{settingsOf}
+use Rattle.wire.specs.Sizes.{plain, sizesOf}
+use Rattle.wire.specs.Bytes.{numberBytes, reportBytes}
 
 -- ---- a burst out of its numbers
 

@@ -1,6 +1,3 @@
-pub mod Record
-pub mod Sizes
-pub mod Layout
 pub mod Refusals
 pub mod Table
 pub mod Examples

@@ -1,44 +1,12 @@
 -- Document 01's table of causes for a record: the number of the first row that turns it away, or 0.
-use Prim.Native.Nat.{ℕ, _+_, _*_}
-use mathlib.Core.Bool.{Bool, not, cond, _||_}
+use Prim.Native.Nat.{ℕ}
+use mathlib.Core.Bool.{Bool, cond}
 use mathlib.Core.List.{List}
-use lib.ListN.{length}
-use lib.Dec.{ltb, eqb}
-use Rattle.refine.specs.Refine.{nbits, ncell}
-use Rattle.phy.specs.Rows.{badLayout, badCodes, badSymbols}
-use Rattle.phy.specs.Refusals.{refusalOf}
-use Rattle.record.specs.Record.{head, padding, settings, countOf, burstOf, priorOf}
+use lib.Dec.{eqb}
+use Rattle.table.specs.Refusals.{refusalOf}
+use Rattle.wire.specs.Record.{burstOf, priorOf}
+use Rattle.wire.specs.Shape.{shapeRefusal}
 
-module _ (rec : List ℕ) where
-  -- 12: under 6 bytes, over 8,192, or padded with a 1
-  unfoldable pub badRecord : Bool
-  badRecord = ltb (length rec) 6 || (ltb 8192 (length rec) || not (eqb (padding (head rec)) 0))
-
-  -- 12: not of the length its fields give
-  unfoldable pub badLength : Bool
-  badLength = not (eqb (length rec) (6 + 4 * countOf rec))
-
-  -- the rows up to there; 0 where none holds
-  unfoldable pub shapeRefusal : ℕ
-  shapeRefusal =
-      cond badRecord 12
-      (cond (badLayout (settings rec)) 1
-      (cond (badCodes (settings rec)) 2
-      (cond (badSymbols (settings rec)) 3
-      (cond badLength 12
-      0))))
-
-  -- The rows after are those of numbers. `room` says whether the bytes lent for the answer are enough.
-  unfoldable pub refusalIn : (room : Bool) → ℕ
-  refusalIn room = cond (eqb shapeRefusal 0) (refusalOf (burstOf rec) (priorOf rec) room) shapeRefusal
-
-  -- bits of a record whose shape is accepted, else 0
-  unfoldable pub bitsOf : ℕ
-  bitsOf = cond (eqb shapeRefusal 0) (nbits (burstOf rec)) 0
-
-  -- bytes of an answer, and of the estimates beside it
-  abbrev pub answerLength : ℕ
-  answerLength = 10 + 4 * nbits (burstOf rec)
-
-  abbrev pub channelLength : ℕ
-  channelLength = 4 * (3 * ncell (burstOf rec))
+-- The shape's rows, then those of numbers. `room` says whether the bytes lent for the answer are enough.
+unfoldable pub refusalIn : (rec : List ℕ) → (room : Bool) → ℕ
+refusalIn rec room = cond (eqb (shapeRefusal rec) 0) (refusalOf (burstOf rec) (priorOf rec) room) (shapeRefusal rec)

@@ -9,12 +9,13 @@ use lib.ListN.{length, getD}
 use lib.Ieee.{Float}
 use Rattle.refine.specs.declared.settings.Settings.{Settings}
 use Rattle.refine.specs.Refine.{Burst}
-use Rattle.phy.specs.Rows.{badLayout, badCodes, badSymbols, badGrid, badVariances, badNumbers}
-use Rattle.phy.specs.Refusals.{refusalOf}
-use Rattle.phy.specs.Table.{First, plain, silent, blank}
-use Rattle.record.specs.Record.{settings, burstOf, priorOf}
-use Rattle.record.specs.Layout.{laidOut, Holds}
-use Rattle.record.specs.Refusals.{badRecord, badLength, refusalIn}
+use Rattle.table.specs.Rows.{badLayout, badCodes, badSymbols, badGrid, badVariances, badNumbers}
+use Rattle.table.specs.Refusals.{refusalOf}
+use Rattle.table.specs.Table.{First, plain, silent, blank}
+use Rattle.wire.specs.Record.{settings, burstOf, priorOf}
+use Rattle.wire.specs.Layout.{laidOut, Holds}
+use Rattle.wire.specs.Shape.{badRecord, badLength}
+use Rattle.record.specs.Refusals.{refusalIn}
 
 -- ---- exact
 

@@ -2,14 +2,14 @@
 ghost use mathlib.Core.Path.{_≡_};
 ghost use Prim.Native.Nat.{_≤_};
 ghost use lib.ListN.{length};
-ghost use Rattle.record.specs.Refusals.{shapeRefusal, answerLength, channelLength};
+ghost use Rattle.wire.specs.Shape.{shapeRefusal, bitsOf, answerLength, channelLength};
 ghost use Rattle.record.specs.Answer.{Answers, AnswersBoth};
-use crate::fields::fields_of;
-use crate::fields::head;
 use crate::judging::judge;
-use crate::numbers::numbers;
-use crate::shape::shape_refusal;
-use crate::shape::sizes_of;
+use wire::fields_of;
+use wire::head;
+use wire::numbers;
+use wire::shape_refusal;
+use wire::sizes_of;
 
 // The most numbers that 8,192 bytes have room for.
 fn numbers_page() -> [f32; 2046]
@@ -63,4 +63,12 @@ pub extern "C" fn refine_record(record: &[u8], out: &mut [u8]) -> u32
 {
     let mut channel = channel_page();
     refine_record_channel(record, out, &mut channel)
+}
+
+// Bits of a record of an accepted shape, else 0: the host makes room for 10 + 4 times as many bytes.
+#[no_mangle]
+pub extern "C" fn record_bits(record: &[u8]) -> usize
+    ensures { λ r. ⌜ r ≡ bitsOf (now («record» .entry)) ⌝ }
+{
+    wire::bits(record)
 }

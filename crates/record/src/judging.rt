@@ -3,16 +3,16 @@ ghost use mathlib.Core.Path.{_≡_};
 ghost use Prim.Native.Nat.{_+_, _*_, _≤_};
 ghost use lib.ListN.{length};
 ghost use Rattle.refine.specs.Refine.{burst};
-ghost use Rattle.record.specs.Record.{settingsOf};
-ghost use Rattle.record.specs.Sizes.{sizesOf};
+ghost use Rattle.wire.specs.Record.{settingsOf};
+ghost use Rattle.wire.specs.Sizes.{sizesOf};
 ghost use Rattle.record.specs.Judging.{burstIn, priorIn, Short, Whole, Refining, InBytes, Written, Judges};
-use crate::answer::put_answer;
-use crate::answer::put_numbers;
-use crate::fields::Fields;
-use crate::shape::sizes_of;
 use phy::Refinement;
 use phy::cause_number;
 use refine::Settings;
+use wire::Fields;
+use wire::put_answer;
+use wire::put_numbers;
+use wire::sizes_of;
 
 // A record of 8,192 bytes has at most 2,043 numbers past boost, pilot gain and p_h. Cell variances and grid take ncell + 2 × ng × nc of them, so that
 // 3 × ncell is at most 2,043, nbits twice and the work area's nbits + 12 × ng × nc six times as much.

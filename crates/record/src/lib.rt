@@ -1,12 +1,7 @@
-// The burst record of document 01, and the C interface on it.
-mod answer;
+// The C interface on the burst record of document 01.
 mod calls;
-mod fields;
 mod judging;
-mod numbers;
-mod shape;
 
+pub use calls::record_bits;
 pub use calls::refine_record;
 pub use calls::refine_record_channel;
-pub use fields::Fields;
-pub use shape::record_bits;

@@ -1,8 +1,8 @@
 -- `refine` meets its contract: nothing is written before the table has passed the call.
 use mathlib.Core.Path.{sym, ap, _∙_}
 use borrow.Author.Needs.{needs}
-use Rattle.phy.specs.Causes.{verdictNumber}
-use Rattle.phy.proofs.Passing.{accepted-fits}
+use Rattle.table.specs.Causes.{verdictNumber}
+use Rattle.table.proofs.Passing.{accepted-fits}
 use Rattle.phy.proofs.Answers.{turned-away, taken}
 use Rattle.phy.proofs.refinement.refine.Statement.{statement}
 use Rattle.phy.proofs.refinement.refine.Tie as tie

@@ -5,7 +5,7 @@ use native.Mathlib.Omega.{arith}
 use borrow.Author.Needs.{needs}
 use lib.ListN.{length}
 use lib.Seq.{length-take-le}
-use Rattle.record.proofs.Shaped.{shaped}
+use Rattle.wire.proofs.Shaped.{shaped}
 use Rattle.record.proofs.Cutting.{may-judge, of-record, bits-counted, cells-counted}
 use Rattle.record.proofs.Answering.{both}
 use Rattle.record.proofs.calls.judge_record.Statement.{statement}

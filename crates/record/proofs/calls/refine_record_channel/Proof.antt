@@ -3,9 +3,9 @@ use Prim.Native.Nat.{ℕ, _+_, _*_}
 use mathlib.Core.Path.{_≡_, sym, ap, _∙_}
 use native.Mathlib.Omega.{arith}
 use borrow.Author.Needs.{needs}
-use Rattle.record.specs.declared.shape.Sizes.{Sizes}
-use Rattle.record.specs.Refusals.{shapeRefusal, answerLength, channelLength}
-use Rattle.record.proofs.Shaped.{shaped}
+use Rattle.wire.specs.declared.shape.Sizes.{Sizes}
+use Rattle.wire.specs.Shape.{shapeRefusal, answerLength, channelLength}
+use Rattle.wire.proofs.Shaped.{shaped}
 use Rattle.record.proofs.Cutting.{Few, few, may-count, short-record, bits-counted, cells-counted}
 use Rattle.record.proofs.Answering.{bad-shape, no-answer, no-channel}
 use Rattle.record.proofs.calls.refine_record_channel.Statement.{statement}

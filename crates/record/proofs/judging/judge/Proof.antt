@@ -5,7 +5,7 @@ use native.Mathlib.Omega.{arith}
 use borrow.Author.Needs.{needs}
 use lib.ListN.{length, take}
 use lib.Seq.{length-take-le}
-use Rattle.record.specs.declared.shape.Sizes.{Sizes}
+use Rattle.wire.specs.declared.shape.Sizes.{Sizes}
 use Rattle.record.proofs.Cutting.{few, bits-in, cells-in}
 use Rattle.record.proofs.Judged.{in-bytes, judges}
 use Rattle.record.proofs.judging.judge.Statement.{statement}

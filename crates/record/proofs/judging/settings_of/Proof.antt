@@ -1,6 +1,6 @@
 -- `settings_of` meets its contract.
 use mathlib.Core.Path.{refl}
-use Rattle.record.specs.Record.{settingsOf}
+use Rattle.wire.specs.Record.{settingsOf}
 use Rattle.record.proofs.judging.settings_of.Statement.{statement}
 use Rattle.record.proofs.judging.settings_of.Tie as tie
 
