@@ -6,7 +6,7 @@ use native.Mathlib.Omega.{arith}
 use lib.ListN.{length, getD, take, drop}
 use lib.Seq.{take-take, getD-take}
 use lib.Ieee.{Float, nan}
-use Rattle.seq.specs.Tab.Laws.{length-tab}
+use Rattle.seq.specs.Tab.Laws.{length-tab, getD-tab}
 use Rattle.dsp.specs.Arithmetic.{complex}
 use Rattle.layout.specs.Maps.{mapOf}
 use Rattle.load.specs.declared.found.Found.{Found}
@@ -14,15 +14,15 @@ use Rattle.load.specs.declared.found.Source.{Source}
 use Rattle.load.specs.Pilots.{pilotAt}
 use Rattle.load.specs.Fit.{places}
 use Rattle.load.specs.Work.{Loads}
-use Rattle.load.proofs.Starts.{length-loaded}
-use Rattle.est.specs.declared.combine.Estimate.{Estimate}
+use Rattle.load.specs.Load.{startOf}
+use Rattle.load.proofs.Starts.{length-loaded, row-le, start-next}
 use Rattle.refine.specs.declared.settings.Settings.{Settings}
 use Rattle.refine.specs.declared.settings.Plan.{Plan}
 use Rattle.refine.specs.Refine.{Burst, burst, unit, slots, expected, found, pilots, starts, source, setting}
 use Rattle.refine.specs.Plan.{planFor, unitFor}
 use Rattle.refine.specs.Whole.{pilotsIn, startsIn}
 use Rattle.channel.specs.Power.{gainIn, varianceIn, powerBy}
-use Rattle.channel.specs.Single.{estimateUnder, InWork}
+use Rattle.channel.specs.Single.{estimateUnder, Rows, InWork}
 use Rattle.channel.specs.Listening.{valueOf}
 use Rattle.channel.specs.Channel.{powerOf, singleOf, Fit, Heard}
 use Rattle.channel.proofs.Fitting.{room}
@@ -53,11 +53,19 @@ module _ (b : Burst) (prior wf : List Float) (wu : List ℕ) (np : ℕ) (h : Hea
   abbrev p : Plan
   p = planFor (b .settings)
 
+  at-most-carriers : Rows (source b .map .nc) (source b .ng) (startsIn p wu)
+  at-most-carriers g u =
+      let s = source b in
+      let f = startOf (s .map .nc) (b .grid) (found b prior) in
+      rw (h .loads .starts, getD-tab f (s .ng + 1) (g + 1) 0 (omega arith), getD-tab f (s .ng + 1) g 0 (omega arith))
+      (omega (arith, start-next (s .map .nc) (b .grid) (found b prior) g, row-le (s .map .nc) (b .grid) (found b prior) g (s .map .nc)))
+
   pub in-work : (wf₀ : List Float) (wu₀ : List ℕ) → Fit b wf₀ wu₀ → length wf ≡ length wf₀ → length wu ≡ length wu₀ → InWork p np wf wu
   in-work wf₀ wu₀ f ef eu =
       let r = room b wf₀ wu₀ f in
       record {
         loaded = rw (take-take (3 * np) (3 * places (source b)) wf (omega (arith, few))) at (h .loads .fit);
+        rows = at-most-carriers;
         few = few;
         small = r .small;
         in-wf = omega (arith, ef, r .in-wf);

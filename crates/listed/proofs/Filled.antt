@@ -1,102 +1,70 @@
--- The lists of numbers as they are filled. Assumes nothing.
-use Prim.Native.Nat.{ℕ, suc, _+_, _*_, _≤_, _<_, _/_}
-use mathlib.Core.Bool.{Bool, true, false, cond}
-use mathlib.Core.Path.{_≡_, refl, sym, _∙_, ap}
+-- The lent lists as the records are put into them, one after the other. Assumes nothing.
+use Prim.Native.Nat.{ℕ, suc, _+_, _*_, _≤_, _<_}
+use mathlib.Core.Path.{_≡_, refl, sym, _∙_}
 use mathlib.Core.List.{List}
 use native.Mathlib.Omega.{arith}
-use lib.Dec.{leb}
-use lib.ListN.{length, length-set}
-use lib.Ieee.{Float}
-use borrow.Author.Tests.{leb-true, leb-false, le-leb, lt-leb}
-use Rattle.seq.specs.Loop.{for}
-use Rattle.seq.specs.Loop.Laws.{for-none, for-next, for-all}
+use lib.ListN.{length, take, drop}
+use lib.Ieee.{Float, nan}
+use lib.Seq.{length-take-le, take-suc, take-length, getD-take}
+use Rattle.seq.specs.Tab.Laws.{tab-only}
 use Rattle.load.specs.declared.pilot.Pilot.{Pilot}
-use Rattle.load.specs.Work.{storedW, storedPf}
-use Rattle.near.specs.Search.{pilot}
-use Rattle.listed.specs.Lists.{roomy, placedW, placedPf, Puts}
-use Rattle.listed.proofs.Sorted.{both}
+use Rattle.load.specs.Pilots.{pilotAt}
+use Rattle.load.specs.Work.{storedW, storedPf, Holds}
+use Rattle.load.proofs.Storing.{one-pushes}
+use Rattle.near.specs.Search.{none, pilot}
+use Rattle.listed.specs.Listed.{Askable, recordsIn, InLists}
+use Rattle.listed.specs.declared.single.Ask.{Ask}
 
--- the first m of n records
-abbrev pub filledW : Bool → ℕ → List Pilot → ℕ → List ℕ → List ℕ
-filledW room n ps m w = for 0 m (λ i. placedW room n i (pilot ps i)) w
+-- the first i of ps are in lists of this many words and floats
+pub record Filled (ps : List Pilot) (words floats i : ℕ) (w : List ℕ) (pf : List Float) : Type 0 where
+  pub long-w : length w ≡ words
+  pub long-pf : length pf ≡ floats
+  pub holds : Holds (length ps) (take i ps) w pf
 
-abbrev pub filledPf : Bool → List Pilot → ℕ → List Float → List Float
-filledPf room ps m pf = for 0 m (λ i. placedPf room i (pilot ps i)) pf
+module _ (ps : List Pilot) where
+  abbrev n : ℕ
+  n = length ps
 
--- ---- room
+  pub begun : (w : List ℕ) (pf : List Float) → Filled ps (length w) (length pf) 0 w pf
+  unfolding Holds
+  begun w pf = record { long-w = refl; long-pf = refl; holds = λ i h. absurd (omega arith) }
 
-pub short : (n words floats : ℕ) → words / 2 < n → false ≡ roomy n words floats
-unfolding roomy
-short n words floats h = rw (lt-leb (2 * n) words (omega arith))
+  module _ (words floats : ℕ) (hw : 2 * n ≤ words) (hf : 3 * n ≤ floats) where
+    pub one-more : (i : ℕ) (w : List ℕ) (pf : List Float) (w' : List ℕ) (pf' : List Float) {r : ℕ} → i < n → Filled ps words floats i w pf
+        → (r ≡ i + 1) × (w' ≡ storedW n i (pilot ps i) w) × (pf' ≡ storedPf i (pilot ps i) pf) → length w' ≡ length w → length pf' ≡ length pf
+        → (r ≡ suc i) × Filled ps words floats (suc i) w' pf'
+    one-more i w pf w' pf' h f e lw lf =
+        let p = one-pushes h (omega (arith, f .long-w)) (omega (arith, f .long-pf)) e in (
+          e .0 ∙ omega arith,
+          record {
+            long-w = lw ∙ f .long-w;
+            long-pf = lf ∙ f .long-pf;
+            holds = rw (take-suc ps i none h) (p .holds (take i ps) (length-take-le i ps (omega arith)) (f .holds));
+          },
+        )
 
-pub long : (n words floats : ℕ) → n ≤ words / 2 → leb n (floats / 3) ≡ roomy n words floats
-unfolding roomy
-long n words floats h = rw (le-leb (2 * n) words (omega arith)) (go (leb n (floats / 3)) refl)
-  where
-    go : (t : Bool) → leb n (floats / 3) ≡ t → leb n (floats / 3) ≡ leb (3 * n) floats
-    go true e = e ∙ sym (le-leb (3 * n) floats (omega (arith, leb-true n (floats / 3) e)))
-    go false e = e ∙ sym (lt-leb (3 * n) floats (omega (arith, leb-false n (floats / 3) e)))
-
-pub room-for : (n words floats : ℕ) → roomy n words floats ≡ true → (2 * n ≤ words) × (3 * n ≤ floats)
-unfolding roomy
-room-for n words floats e =
-    let h = both (leb (2 * n) words) (leb (3 * n) floats) e in
-    (leb-true (2 * n) words (h .0), leb-true (3 * n) floats (h .1))
-
--- ---- lengths
-
-module _ (room : Bool) (n : ℕ) where
-  stored-w : (i : ℕ) (p : Pilot) (w : List ℕ) → length (storedW n i p w) ≡ length w
-  unfolding storedW
-  stored-w i p w = simp length-set
-
-  stored-pf : (i : ℕ) (p : Pilot) (pf : List Float) → length (storedPf i p pf) ≡ length pf
-  unfolding storedPf
-  stored-pf i p pf = simp length-set
-
-  either : {A : Type 0} (t : Bool) (x y : List A) → length x ≡ length y → length (cond t x y) ≡ length y
-  either true x y e = e
-  either false x y e = refl
-
-  kept-w : (i : ℕ) (p : Pilot) (w : List ℕ) → length (placedW room n i p w) ≡ length w
-  unfolding placedW
-  kept-w i p w = either room (storedW n i p w) w (stored-w i p w)
-
-  kept-pf : (i : ℕ) (p : Pilot) (pf : List Float) → length (placedPf room i p pf) ≡ length pf
-  unfolding placedPf
-  kept-pf i p pf = either room (storedPf i p pf) pf (stored-pf i p pf)
-
-module _ (room : Bool) (n : ℕ) (ps : List Pilot) where
-  pub long-w : (m : ℕ) (w : List ℕ) → length (filledW room n ps m w) ≡ length w
-  long-w m w = for-all (λ t. length t ≡ length w) (λ i. placedW room n i (pilot ps i)) 0 m w (λ i t u v e. kept-w room n i (pilot ps i) t ∙ e) refl
-
-  pub long-pf : (m : ℕ) (pf : List Float) → length (filledPf room ps m pf) ≡ length pf
-  long-pf m pf = for-all (λ t. length t ≡ length pf) (λ i. placedPf room i (pilot ps i)) 0 m pf (λ i t u v e. kept-pf room n i (pilot ps i) t ∙ e) refl
-
--- ---- one more
-module _ (n : ℕ) (ps : List Pilot) (w : List ℕ) (pf : List Float) where
-  abbrev room : Bool
-  room = roomy n (length w) (length pf)
-
-  abbrev pub words : ℕ → List ℕ
-  words i = filledW room n ps i w
-
-  abbrev pub floats : ℕ → List Float
-  floats i = filledPf room ps i pf
-
-  pub begun-w : w ≡ words 0
-  begun-w = for-none (λ i. placedW room n i (pilot ps i)) 0 w
-
-  pub begun-pf : pf ≡ floats 0
-  begun-pf = for-none (λ i. placedPf room i (pilot ps i)) 0 pf
-
-  pub turned : (i r : ℕ) (w' : List ℕ) (pf' : List Float) → Puts n i (pilot ps i) (words i) (floats i) w' pf' r
-      → (r ≡ suc i) × (w' ≡ words (suc i)) × (pf' ≡ floats (suc i))
-  turned i r w' pf' e =
-      let lw = long-w room n ps i w in
-      let lf = long-pf room n ps i pf in
-      let s : i + 1 ≡ suc i = omega arith in (
-        e .next ∙ s,
-        rw (lw, lf) at (e .words) ∙ (sym (for-next (λ j. placedW room n j (pilot ps j)) 0 i w (omega arith)) ∙ ap words s),
-        rw (lw, lf) at (e .floats) ∙ (sym (for-next (λ j. placedPf room j (pilot ps j)) 0 i pf (omega arith)) ∙ ap floats s),
+  pub all-in : (w : List ℕ) (pf : List Float) (words floats : ℕ) → Filled ps words floats n w pf → recordsIn n w pf ≡ ps
+  unfolding Holds
+  all-in w pf words floats f =
+      let here : (i : ℕ) → i < n → pilotAt w (drop n w) pf i ≡ pilot ps i = rw (take-length ps) at (f .holds) in
+      sym
+      (tab-only (pilotAt (take n w) (take n (drop n w)) (take (3 * n) pf)) n none ps refl
+      (λ i h.
+      sym
+      (rw (
+        getD-take n w i 0 h,
+        getD-take n (drop n w) i 0 h,
+        getD-take (3 * n) pf (3 * i) nan (omega arith),
+        getD-take (3 * n) pf (3 * i + 1) nan (omega arith),
+        getD-take (3 * n) pf (3 * i + 2) nan (omega arith),
       )
+      (here i h))))
+
+-- so what may be asked of the records may be asked of the lists
+pub asked-in : (a : Ask) (ps : List Pilot) (words floats : ℕ) → Askable a ps words floats → (w : List ℕ) (pf : List Float) → Filled ps words floats (length ps) w pf → InLists a (length ps) w pf
+asked-in a ps words floats k w pf f = record {
+  may = k .may;
+  ordered = rw (all-in ps w pf words floats f) (k .ordered);
+  in-w = omega (arith, f .long-w, k .in-w);
+  in-pf = omega (arith, f .long-pf, k .in-pf);
+}

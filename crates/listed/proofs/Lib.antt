@@ -1,7 +1,8 @@
-pub mod Filled
-pub mod Sorted
-pub mod Held
-pub mod Asking
-pub mod Whole
-mod Again
+-- Laws of the definitions, for the proofs here and in the crates above.
+mod Sorted
+mod Starts
 pub mod ByAll
+mod Asking
+mod Filled
+mod Again
+mod Front

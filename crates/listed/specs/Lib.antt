@@ -1,4 +1,2 @@
-pub mod Lists
 pub mod Order
 pub mod Listed
-pub mod Among

@@ -1,72 +1,66 @@
--- The single estimate from a list of pilot records: by all of them, under the model fd[2], tm[2] and scale 1.
-use Prim.Native.Nat.{ℕ, _*_}
-use mathlib.Core.Bool.{Bool, true, cond, _&&_}
-use mathlib.Core.Path.{_≡_}
+-- The single estimate from a list of pilot records: est.rs, `estimate`, by all of them, under the model that `Estimator::new` sets.
+use Prim.Native.Nat.{ℕ, _*_, _≤_, _<_}
 use mathlib.Core.List.{List}
-use lib.Dec.{ltb, leb}
 use lib.ListN.{length, take, drop}
 use lib.Ieee.{Float}
-use Rattle.ieee.specs.Num.{one32}
-use Rattle.layout.specs.declared.layouts.Layout.{Layout}
-use Rattle.layout.specs.Layouts.{layoutOf}
-use Rattle.layout.specs.Sizes.{ngOf}
+use Rattle.ieee.specs.Num.{_⊠_, one32}
 use Rattle.load.specs.declared.pilot.Pilot.{Pilot}
-use Rattle.load.specs.Pilots.{pilots, Loaded}
-use Rattle.near.specs.declared.query.Query.{Query}
-use Rattle.near.specs.declared.query.Window.{Window}
-use Rattle.est.specs.Estimate.{heldK, estimateAll}
-use Rattle.est.specs.Model.{rfOf, rtOf, scalesOf}
+use Rattle.load.specs.Pilots.{pilots}
+use Rattle.near.specs.Search.{pilot}
+use Rattle.near.specs.Own.{among}
+use Rattle.est.specs.Estimate.{estimateOf}
 use Rattle.est.specs.declared.combine.Estimate.{Estimate}
-use Rattle.est.specs.declared.model.Scales.{Scales}
-use Rattle.model.specs.Values.{numerologyOf, windowOf, fdValue, tmValue}
-use Rattle.listed.specs.Lists.{roomy}
-use Rattle.listed.specs.Order.{inOrder, startsOf}
+use Rattle.model.specs.declared.select.Model.{Model}
+use Rattle.model.specs.Values.{FitModels}
+use Rattle.judge.specs.Cells.{queryOf}
+use Rattle.refine.specs.Refine.{fittedOf, carrierTable, symbolTable}
 use Rattle.listed.specs.declared.single.Ask.{Ask}
-use Rattle.listed.specs.declared.single.Listed.{Listed}
-use Rattle.listed.specs.declared.single.Listed.the-variants.{Given, Refused}
 
-module _ (a : Ask) where
-  abbrev pub layoutAt : Layout
-  layoutAt = layoutOf (a .layout)
+-- default_model(l), which is (l.fd[2], l.tm[2]) of the robust grid and has the indices 3 3; mse_scale: 1.0
+abbrev pub defaultModel : Model
+defaultModel = record { fd = 3; tm = 3; scale = one32 }
 
-  abbrev pub ngAt : ℕ
-  ngAt = ngOf layoutAt (a .nsym)
+-- by the choice among the whole list, wherever its symbols begin; proofs/ByAll.antt shows that it is est.rs's
+unfoldable pub byAll : Ask → List Pilot → Estimate
+byAll a ps =
+    let s = a .setting in
+    let f = fittedOf s defaultModel in
+    let q = queryOf f (a .c) (a .g) in
+    let e = estimateOf (s .«p_h») (carrierTable s defaultModel) (symbolTable s defaultModel) q (f .w) (among q (f .w) ps) in
+    record { h = e .h; mse = e .mse ⊠ f .scale }
 
-  abbrev pub fdAt : Float
-  fdAt = fdValue layoutAt (a .sparse) 2
+-- a layout's setting, and a cell of its grid
+pub record May (a : Ask) : Type 0 where
+  pub models : FitModels (a .setting .l)
+  pub carriers : a .setting .l .nc ≤ 109
+  pub symbols : a .setting .ng ≤ 1084
+  pub width : a .setting .l .gw ≤ 12
+  pub some : 1 ≤ a .setting .k
+  pub most : a .setting .k ≤ 40
+  pub carrier : a .c < a .setting .l .nc
+  pub symbol : a .g < a .setting .ng
 
-  abbrev pub tmAt : Float
-  tmAt = tmValue layoutAt 2
+-- pilots of the grid, in order of symbol
+pub record Ordered (nc ng : ℕ) (ps : List Pilot) : Type 0 where
+  pub few : length ps ≤ 118156
+  pub carrier : (i : ℕ) → i < length ps → pilot ps i .c < nc
+  pub symbol : (i : ℕ) → i < length ps → pilot ps i .g < ng
+  pub order : (i j : ℕ) → i ≤ j → j < length ps → pilot ps i .g ≤ pilot ps j .g
 
-  -- the cell, with the model's units of distance
-  abbrev pub cellAt : Scales → Query
-  cellAt u = record { c = a .c; g = a .g; lc = u .lc; lg = u .lg }
+-- what an estimate may count on, where lists of this many words and floats are lent
+pub record Askable (a : Ask) (ps : List Pilot) (words floats : ℕ) : Type 0 where
+  pub may : May a
+  pub ordered : Ordered (a .setting .l .nc) (a .setting .ng) ps
+  pub in-w : 2 * length ps ≤ words
+  pub in-pf : 3 * length ps ≤ floats
 
-  abbrev pub windowAt : Window
-  windowAt = windowOf layoutAt ngAt (heldK (a .k))
+-- n pilots in the lent lists
+abbrev pub recordsIn : ℕ → List ℕ → List Float → List Pilot
+recordsIn n w pf = pilots (take n w) (take n (drop n w)) (take (3 * n) pf) n
 
-  -- a layout, a burst's symbols, a cell of its grid, and no more pilots than cells
-  unfoldable pub askable : ℕ → Bool
-  askable n = leb (a .layout) 8 && (ltb 0 (a .nsym) && (leb (a .nsym) 1023 && (ltb (a .c) (layoutAt .nc) && (ltb (a .g) ngAt && leb n (ngAt * layoutAt .nc)))))
-
-  -- est.rs, `estimate`, with self.start as it stands
-  unfoldable pub estimateBy : List Pilot → List ℕ → Estimate
-  estimateBy ps start =
-      estimateAll (a .«p_h») (rfOf (numerologyOf layoutAt) tmAt) (rtOf (numerologyOf layoutAt) fdAt) (cellAt (scalesOf (numerologyOf layoutAt) fdAt tmAt)) windowAt ps start one32
-
-  unfoldable pub judgedOf : List Pilot → Listed
-  judgedOf ps = cond (inOrder (layoutAt .nc) ngAt ps) (Given (estimateBy ps (startsOf ngAt ps))) Refused
-
-  -- lists of this many words and floats are lent
-  unfoldable pub listedOf : List Pilot → ℕ → ℕ → Listed
-  listedOf ps words floats = cond (askable (length ps)) (cond (roomy (length ps) words floats) (judgedOf ps) Refused) Refused
-
-  -- what an estimate may count on: the pilots in three lists, and where each symbol's begin
-  pub record Ready (pc pg : List ℕ) (pf : List Float) (start : List ℕ) : Type 0 where
-    pub may : askable (length pc) ≡ true
-    pub loaded : Loaded pc pg pf start (layoutAt .nc) ngAt (length pc)
-
--- the same of n pilots that stand in the lists
-unfoldable pub singleOf : ℕ → Ask → List ℕ → List Float → Listed
-singleOf n a w pf =
-    cond (askable a n) (cond (roomy n (length w) (length pf)) (judgedOf a (pilots (take n w) (take n (drop n w)) (take (3 * n) pf) n)) Refused) Refused
+-- of which the same may be asked
+pub record InLists (a : Ask) (n : ℕ) (w : List ℕ) (pf : List Float) : Type 0 where
+  pub may : May a
+  pub ordered : Ordered (a .setting .l .nc) (a .setting .ng) (recordsIn n w pf)
+  pub in-w : 2 * n ≤ length w
+  pub in-pf : 3 * n ≤ length pf

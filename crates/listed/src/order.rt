@@ -1,50 +1,12 @@
-// Whether the pilots stand in order of symbol, each of them in the grid, and where each symbol's begin.
+// Where the pilots of each symbol begin, when they stand in order of symbol.
 ghost use mathlib.Core.Path.{_≡_};
-ghost use mathlib.Core.Bool.{cond, _&&_};
+ghost use mathlib.Core.Bool.{cond};
 ghost use mathlib.Core.List.{_++_};
-ghost use Prim.Native.Nat.{ℕ, _+_, _-_, _<_, _≤_};
+ghost use Prim.Native.Nat.{ℕ, _+_, _<_, _≤_};
 ghost use lib.Dec.{ltb};
 ghost use lib.ListN.{length, getD, drop};
 ghost use Rattle.seq.specs.Tab.{tab};
-ghost use Rattle.listed.specs.Order.{sits, orderly, below};
-
-// A pilot at carrier c and symbol g, after one of the symbol `before`.
-fn sits(c: u32, before: u32, g: u32, nc: usize, ng: usize) -> bool
-    ensures { λ r. ⌜ r ≡ sits nc ng c before g ⌝ }
-{
-    if c as usize >= nc {
-        return false;
-    }
-    if g as usize >= ng {
-        return false;
-    }
-    before <= g
-}
-
-// One turn of `in_order`.
-fn sits_at(pc: &[u32], pg: &[u32], nc: usize, ng: usize, i: usize, t: bool) -> bool
-    requires { ⌜ (i < length (now pc)) × (i < length (now pg)) ⌝ }
-    ensures { λ r. ⌜ r ≡ (t && sits nc ng (getD (now (pc .entry)) i 0) (getD (now (pg .entry)) (i - 1) 0) (getD (now (pg .entry)) i 0)) ⌝ }
-{
-    if !t {
-        return false;
-    }
-    if i == 0 {
-        return sits(pc[i], pg[i], pg[i], nc, ng);
-    }
-    sits(pc[i], pg[i - 1], pg[i], nc, ng)
-}
-
-pub fn in_order(pc: &[u32], pg: &[u32], nc: usize, ng: usize) -> bool
-    requires { ⌜ length (now pc) ≤ length (now pg) ⌝ }
-    ensures { λ r. ⌜ r ≡ orderly nc ng (λ (i : ℕ). getD (now (pc .entry)) i 0) (λ (i : ℕ). getD (now (pg .entry)) i 0) (length (now (pc .entry))) ⌝ }
-{
-    let mut t = true;
-    for i in 0..pc.len() {
-        t = sits_at(pc, pg, nc, ng, i, t);
-    }
-    t
-}
+ghost use Rattle.listed.specs.Order.{below};
 
 // s, and one more where the symbol is below g.
 fn counted(symbol: u32, g: usize, s: u32) -> u32

@@ -2,6 +2,6 @@ pub mod Counted
 pub mod Starts
 pub mod Own
 pub mod Sources
-mod Storing
+pub mod Storing
 mod Turns
 mod OneList

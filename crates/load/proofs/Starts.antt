@@ -42,7 +42,7 @@ at-place c g y Blank t h = absurd (omega arith)
 
 module _ (nc : ℕ) (grid : List Float) (value : ℕ → ℕ → Found) where
   -- the pilots of a symbol's carriers below n
-  row-le : (g n : ℕ) → length (cat n (loadedAt nc grid value g)) ≤ n
+  pub row-le : (g n : ℕ) → length (cat n (loadedAt nc grid value g)) ≤ n
   row-le g n = rw mul-one at (length-cat-le 1 (loadedAt nc grid value g) (λ c. at-most-one c g (sampleAt grid (g * nc + c)) (value c g)) n)
 
   pub carrier-below : (g n k : ℕ) → k < length (cat n (loadedAt nc grid value g)) → getD (cat n (loadedAt nc grid value g)) k nothing .c < n

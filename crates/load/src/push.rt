@@ -32,7 +32,7 @@ pub fn pilot_of(c: usize, g: usize, y: Complex, x: Complex, v: f32) -> Pilot
 }
 
 // Pilot i: its carrier at i, its symbol at n + i, its three numbers from 3 i on.
-fn put(p: Pilot, n: usize, i: usize, w: &mut [u32], pf: &mut [f32]) -> usize
+pub fn put(p: Pilot, n: usize, i: usize, w: &mut [u32], pf: &mut [f32]) -> usize
     requires { ⌜ (i < n) × (2 * n ≤ length (now w)) × (3 * n ≤ length (now pf)) ⌝ }
     ensures { λ r. ⌜ (r ≡ i + 1) × (now (w .exit) ≡ storedW n i p (now (w .entry))) × (now (pf .exit) ≡ storedPf i p (now (pf .entry))) ⌝ }
 {

@@ -7,11 +7,11 @@ mod query;
 mod tables;
 
 ghost use mathlib.Core.Path.{_≡_};
-ghost use Prim.Native.Nat.{_≤_, _<_};
+ghost use Prim.Native.Nat.{_+_, _-_, _≤_, _<_, min};
 ghost use lib.ListN.{length, getD};
 ghost use Rattle.load.specs.Pilots.{pilots};
 ghost use Rattle.near.specs.Nearest.{nearest};
-ghost use Rattle.near.specs.Search.{Searchable, Picked, gLo, gHi, indices};
+ghost use Rattle.near.specs.Search.{Searchable, Picked, indices};
 ghost use Rattle.near.specs.Walk.{Span, skips, keys, found};
 use first::gather;
 use nearest::select;
@@ -19,27 +19,29 @@ use nearest::unpack;
 pub use query::Query;
 pub use query::Window;
 
-fn low(q: Query, w: Window) -> usize
-    ensures { λ r. ⌜ r ≡ gLo q w ⌝ }
+// An estimate at symbol g of ng uses the symbols from `low` up to `high`: those within gw.
+pub fn low(g: usize, gw: usize) -> usize
+    ensures { λ r. ⌜ r ≡ g - gw ⌝ }
 {
-    if q.g < w.gw {
+    if g < gw {
         return 0;
     }
-    q.g - w.gw
+    g - gw
 }
 
-fn high(q: Query, w: Window) -> usize
-    requires { ⌜ (q .g < 65536) × (w .gw ≤ 12) ⌝ }
-    ensures { λ r. ⌜ r ≡ gHi q w ⌝ }
+pub fn high(g: usize, gw: usize, ng: usize) -> usize
+    requires { ⌜ (g < 65536) × (gw ≤ 12) ⌝ }
+    ensures { λ r. ⌜ r ≡ min (g + gw + 1) ng ⌝ }
 {
-    let t = q.g + w.gw + 1;
-    if t < w.ng {
+    let t = g + gw + 1;
+    if t < ng {
         return t;
     }
-    w.ng
+    ng
 }
 
-fn start_of(start: &[u32], g: usize) -> usize
+// Where the pilots of symbol g start.
+pub fn start_of(start: &[u32], g: usize) -> usize
     requires { ⌜ g < length (now start) ⌝ }
     ensures { λ r. ⌜ r ≡ getD (now (start .entry)) g 0 ⌝ }
 {
@@ -87,9 +89,9 @@ pub fn pick(
     requires { ⌜ Searchable (now pc) (now pg) (now pf) (now start) (now idx) q w ⌝ }
     ensures { λ r. ⌜ Picked r (now (idx .exit)) (indices q w (pilots (now (pc .entry)) (now (pg .entry)) (now (pf .entry)) (length (now (pc .entry)))) (now (start .entry)) x) (w .k) ⌝ }
 {
-    let g = low(q, w);
+    let g = low(q.g, w.gw);
     let lo = start_of(start, g);
     let mid = start_of(start, q.g);
-    let hi = start_of(start, high(q, w));
+    let hi = start_of(start, high(q.g, w.gw, w.ng));
     pick_in(pc, pg, q, w, x, g, lo, mid, hi, idx)
 }
