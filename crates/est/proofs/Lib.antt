@@ -5,3 +5,4 @@ pub mod Tables
 pub mod Turns
 pub mod Chosen
 pub mod Without
+mod Indices

@@ -3,6 +3,8 @@ use Prim.Native.Nat.{ℕ, _+_, _-_, _*_, _/_, _%_, _≤_, _<_}
 use mathlib.Core.Path.{_≡_, _∙_}
 use native.Mathlib.Nat.{mod-lt, div-lt-iff-lt-mul, div-add-mod', mul-add-div-right, mul-add-mod-self-right, div-eq-of-lt, mod-eq-of-lt, mul-le-mul, mul-assoc}
 use native.Mathlib.Omega.{arith}
+use mir.Syntax.{w64}
+use mir.Val.{Fits}
 use Rattle.seq.specs.Cat.Laws.{stretch}
 use Rattle.layout.specs.Maps.{carriersAt}
 use Rattle.load.specs.declared.found.Source.{Source}
@@ -19,6 +21,20 @@ pub record Placed (s : Source) (cell : ℕ) : Type 0 where
   pub carrier : carrierOf s cell < s .map .nc
   pub place : symbolOf s cell * s .map .nc + carrierOf s cell < places s
   pub same : cellOf s (symbolOf s cell) (cell % s .dc) ≡ cell
+
+-- what the code computes to lend stretch k, of w numbers of four bytes, fits a word
+pub record Lent (k w : ℕ) : Type 0 where
+  pub wide : Fits w64 w
+  pub from : Fits w64 (k * w)
+  pub to : Fits w64 (k * w + w)
+  pub offset : Fits w64 (k * w * 4)
+  pub forward : k * w ≤ k * w + w
+
+pub lending : (k w : ℕ) → k * w + w ≤ 708936 → Lent k w
+lending k w h = omega arith
+
+pub cell-lent : (j dc w : ℕ) → j < dc → dc ≤ 109 → w ≤ 6 → Lent j w
+cell-lent j dc w h b b' = lending j w (omega (arith, stretch j dc w 654 h (mul-le-mul b b')))
 
 pub few-carriers : (s : Source) → FitCells s → s .dc ≤ 109
 unfolding carriersAt
@@ -62,8 +78,8 @@ module _ (s : Source) (fit : FitCells s) where
   pub row-within : (t w n : ℕ) → s .map .«hdr_end» + t < s .ng → ncell s * w ≤ n → t * (s .dc * w) + s .dc * w ≤ n
   row-within t w n ht h = stretch t (s .ng - s .map .«hdr_end») (s .dc * w) n (omega arith) (rw mul-assoc at h)
 
-  pub row-small : (t w : ℕ) → s .map .«hdr_end» + t < s .ng → w ≤ 6 → t * (s .dc * w) + s .dc * w ≤ 708936
-  row-small t w ht h = row-within t w 708936 ht (mul-le-mul (few-cells s fit) h)
+  pub row-lent : (t w : ℕ) → s .map .«hdr_end» + t < s .ng → w ≤ 6 → Lent t (s .dc * w)
+  row-lent t w ht h = lending t (s .dc * w) (row-within t w 708936 ht (mul-le-mul (few-cells s fit) h))
 
   pub row-all : (t : ℕ) → s .map .«hdr_end» + t < s .ng → t * s .dc + s .dc ≤ ncell s
   row-all t ht = stretch t (s .ng - s .map .«hdr_end») (s .dc) (ncell s) (omega arith) (omega arith)

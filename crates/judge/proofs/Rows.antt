@@ -8,8 +8,10 @@ use native.Mathlib.Omega.{arith}
 use lib.ListN.{length, take, drop, getD, drop-of-length-le}
 use lib.Seq.{getD-take, getD-drop, drop-at}
 use lib.Ieee.{Float, nan}
+use mir.Syntax.{w64}
+use mir.Val.{Fits}
 use Rattle.seq.specs.Cat.{cat}
-use Rattle.seq.specs.Cat.Laws.{length-cat, cat-more, length-catted, returned, cat-rows}
+use Rattle.seq.specs.Cat.Laws.{stretch, length-cat, cat-more, lent, returned, cat-rows}
 use Rattle.dsp.specs.Arithmetic.{complex}
 use Rattle.load.specs.Find.{meanAt}
 
@@ -24,6 +26,26 @@ returnedTo w k l xs = take (k * w) l ++ (xs ++ drop (k * w + w - k * w) (drop (k
 pub whole : (n : ℕ) (xs l : List Float) → length l ≡ n → xs ++ drop n l ≡ xs
 whole n xs l e = ap (λ (r : List Float). xs ++ r) (drop-of-length-le l {i = n} (omega arith)) ∙ append-nil xs
 
+-- part j of n lies within the list
+pub row-inside : (j n w : ℕ) (l m : List Float) → j < n → length l ≡ n * w → length m ≡ length l → j * w + w ≤ length m
+row-inside j n w l m b e e' = omega (arith, stretch j n w (length l) b (omega arith))
+
+pub lent-long : (j w : ℕ) (m : List Float) → j * w + w ≤ length m → w ≤ length (lentOf w j m)
+lent-long j w m h = omega (arith, lent (j * w) w m h)
+
+-- turn j of n, and two numbers of it
+pub one-more : {j n : ℕ} → j < n → j + 1 ≤ n
+one-more b = omega arith
+
+pub one-less : {j n : ℕ} → j < n → n - (j + 1) < n - j
+one-less b = omega arith
+
+pub next-fits : {j n : ℕ} → j < n → n ≤ 109 → Fits w64 (j + 1)
+next-fits b h = omega arith
+
+pub two-within : {j dc n : ℕ} → j < dc → 2 * dc ≤ n → 2 * j + 1 < n
+two-within b h = omega arith
+
 module _ (w : ℕ) (f : ℕ → List Float) (h : (j : ℕ) → length (f j) ≡ w) where
   -- the stretch of part j came back as that part
   pub row-step : (j : ℕ) (l m ys : List Float) → m ≡ cat j f ++ drop (j * w) l → ys ≡ f j
@@ -35,9 +57,6 @@ module _ (w : ℕ) (f : ℕ → List Float) (h : (j : ℕ) → length (f j) ≡ 
   row-end j n l m b b' e e' =
       let q : j ≡ n = omega arith in
       (rw q at e') ∙ whole (n * w) (cat n f) l e
-
-  pub row-length : (j : ℕ) (l m : List Float) → j * w ≤ length l → m ≡ cat j f ++ drop (j * w) l → length m ≡ length l
-  row-length j l m b e = rw e (length-catted w f h j l b)
 
   -- a stretch not yet written is as it was
   pub row-lent : (j i : ℕ) (d : Float) (l m : List Float) → i < w → m ≡ cat j f ++ drop (j * w) l → getD (lentOf w j m) i d ≡ getD l (j * w + i) d

@@ -108,7 +108,8 @@ pub fn estimate_row(
 {
     let dc = s.dc;
     for j in 0..dc {
-        let out = &mut row[j * 3..j * 3 + 3];
+        let at = j * 3;
+        let out = &mut row[at..at + 3];
         estimate_cell(s, f, t * dc + j, pc, pg, pf, start, rf, rt, out);
     }
 }

@@ -45,9 +45,11 @@ pub fn judge_symbol(
 {
     let w = s.dc * 3;
     let v = s.dc * m.bps;
-    let row = &mut channel[t * w..t * w + w];
+    let row_at = t * w;
+    let row = &mut channel[row_at..row_at + w];
     estimate_row(s, f, t, pc, pg, pf, start, rf, rt, row);
-    let out = &mut answer[t * v..t * v + v];
+    let out_at = t * v;
+    let out = &mut answer[out_at..out_at + v];
     if m.spread {
         despread_row(s, m.bps, m.gain, t, pts, tw, soft, grid, cells, row, out);
         return;

@@ -65,7 +65,8 @@ pub fn demap_row(
 {
     let dc = s.dc;
     for j in 0..dc {
-        let stretch = &mut out[j * bps..j * bps + bps];
+        let at = j * bps;
+        let stretch = &mut out[at..at + bps];
         demap_cell(
             s,
             bps,

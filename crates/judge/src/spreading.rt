@@ -18,6 +18,7 @@ use equalize::sic;
 use expect::row_means;
 use expect::row_variance;
 use load::Source;
+use load::sample;
 
 // What was received at the cells of data symbol t.
 fn samples(s: Source, t: usize, grid: &[f32], y: &mut [f32])
@@ -89,12 +90,13 @@ fn despread_cells(dc: usize, bps: usize, e: Equalized, pts: &[f32; 128], z: &[f3
 {
     for j in 0..dc {
         let c = Cell {
-            y: Complex::new(z[2 * j], z[2 * j + 1]),
+            y: sample(z, j),
             h: Complex::new(e.mu, 0.0),
             mse: 0.0,
             sigma2: e.var,
         };
-        demap(c, pts, bps, &mut out[j * bps..j * bps + bps]);
+        let at = j * bps;
+        demap(c, pts, bps, &mut out[at..at + bps]);
     }
 }
 

@@ -4,4 +4,5 @@ pub mod Own
 pub mod Sources
 pub mod Storing
 mod Turns
+mod Marks
 mod OneList

@@ -1,9 +1,11 @@
 -- `gather`'s loop: n have been found, and the first k of them are stored. It ends with all, or with more than k.
-use Prim.Native.Nat.{ℕ, suc, _+_, _≤_, _<_, min}
+use Prim.Native.Nat.{ℕ, suc, _+_, _≤_, _<_, min, _-_, _*_, _^_}
 use mathlib.Core.Bool.{Bool, true, false, cond}
 use mathlib.Core.Path.{_≡_, refl, sym, ap, _∙_, subst}
 use mathlib.Core.List.{List, [], _∷_, _++_}
 use native.Mathlib.Omega.{arith}
+use mir.Syntax.{w64}
+use mir.Val.{Fits}
 use native.Mathlib.Decide.{decLt}
 use lib.Dec.{ltb}
 use lib.ListN.{length, take, set, length-set, length-append, length-take}
@@ -77,3 +79,26 @@ few k skip key lo hi n idx h g = g .few h ∙ sym (nearest-few key k (found skip
   where
     fits : take n idx ≡ found skip lo hi → length (found skip lo hi) ≤ k
     fits e = rw (← e) (omega (arith, length-take n idx))
+
+-- ---- a turn i of a loop up to hi
+
+pub turn-fits : {i hi : ℕ} → i < hi → hi < 2 ^ 32 → Fits w64 (i + 1)
+turn-fits b h = omega arith
+
+pub offset-fits : {i hi : ℕ} → i < hi → hi < 2 ^ 32 → Fits w64 (i * 4)
+offset-fits b h = omega arith
+
+pub turn-below : {i hi : ℕ} → i < hi → hi < 2 ^ 32 → i < 2 ^ 32
+turn-below b h = omega arith
+
+pub turn-more : {i hi : ℕ} → i < hi → i + 1 ≤ hi
+turn-more b = omega arith
+
+pub turn-less : {i hi : ℕ} → i < hi → hi - (i + 1) < hi - i
+turn-less b = omega arith
+
+pub after : {lo i : ℕ} → lo ≤ i → lo ≤ i + 1
+after b = omega arith
+
+pub one-each : {n n' i : ℕ} → n' ≤ n + 1 → n ≤ i → n' ≤ i + 1
+one-each b h = omega arith

@@ -1,11 +1,13 @@
 -- The burst that is cut out of a record's numbers is the record's burst. Assumes nothing.
-use Prim.Native.Nat.{ℕ, _+_, _-_, _*_, _/_, _≤_}
+use Prim.Native.Nat.{ℕ, _+_, _-_, _*_, _/_, _≤_, _<_}
 use mathlib.Core.Path.{_≡_, refl, sym, ap, _∙_}
 use mathlib.Core.List.{List, _++_}
 use native.Mathlib.Omega.{arith}
 use lib.ListN.{length, take, drop, length-drop}
 use lib.Seq.{take-at, take-all, getD-take, getD-drop, length-take-le}
 use lib.Ieee.{Float, nan}
+use mir.Syntax.{w64}
+use mir.Val.{Fits}
 use Rattle.seq.specs.Tab.{tab}
 use Rattle.seq.specs.Tab.Laws.{length-tab, getD-tab, tab-only}
 use Rattle.refine.specs.declared.settings.Settings.{Settings}
@@ -92,6 +94,30 @@ pub as-many : (rec : List ℕ) → Shaped rec → (length rec - 6) / 4 ≡ count
 as-many rec h = omega (arith, h .length-is)
 
 -- the sizes of the burst in its numbers, whatever these are
+-- k fit into a list that was n long and still is
+pub prefix-in : {k n a b : ℕ} → k ≤ n → a ≡ b → n ≡ b → k ≤ a
+prefix-in h e e' = omega arith
+
+-- The code cuts n numbers at three, at a, at b and at c. These lie in this order, and each, and its place in bytes, fits a word.
+pub record Cut (z : Sizes) (n : ℕ) : Type 0 where
+  pub three : 2 < n
+  pub a : Fits w64 (3 + z .nc)
+  pub b : Fits w64 (3 + z .nc + z .ncell)
+  pub samples : Fits w64 (2 * z .grid)
+  pub c : Fits w64 (3 + z .nc + z .ncell + 2 * z .grid)
+  pub a-offset : Fits w64 ((3 + z .nc) * 4)
+  pub b-offset : Fits w64 ((3 + z .nc + z .ncell) * 4)
+  pub c-offset : Fits w64 ((3 + z .nc + z .ncell + 2 * z .grid) * 4)
+  pub to-a : 3 ≤ 3 + z .nc
+  pub to-b : 3 + z .nc ≤ 3 + z .nc + z .ncell
+  pub to-c : 3 + z .nc + z .ncell ≤ 3 + z .nc + z .ncell + 2 * z .grid
+  pub a-within : 3 + z .nc ≤ n
+  pub b-within : 3 + z .nc + z .ncell ≤ n
+  pub c-within : 3 + z .nc + z .ncell + 2 * z .grid ≤ n
+
+cut-of : (z : Sizes) (n : ℕ) → 3 + z .nc + z .ncell + 2 * z .grid ≤ n → n ≤ 2046 → Cut z n
+cut-of z n h h' = omega arith
+
 module _ (f : Fields) (nums : List Float) where
   pub bits-in : nbits (burstIn f nums) ≡ sizesOf f .nbits
   unfolding burstIn settingsIn settingsOf sizesOf
@@ -111,8 +137,8 @@ module _ (f : Fields) where
   unfolding sizesOf
   few z e h = rw e (record { bits = h .bits; cells = h .cells })
 
-  pub within : (z : Sizes) (nums : List Float) → z ≡ sizesOf f → Whole f nums → 3 + z .nc + z .ncell + 2 * z .grid ≤ length nums
-  within z nums e h = rw e (h .count)
+  pub cuts-at : (z : Sizes) (nums : List Float) → z ≡ sizesOf f → Whole f nums → Cut z (length nums)
+  cuts-at z nums e h = cut-of z (length nums) (rw e (h .count)) (h .few)
 
   -- no number of the settings is read for them
   pub short-in : (a b c : Float) → Short (plain f) → Short (settingsOf f a b c)

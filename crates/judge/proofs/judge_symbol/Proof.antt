@@ -3,11 +3,10 @@ use Prim.Native.Nat.{_≤_, _+_, _*_}
 use mathlib.Core.Path.{_∙_}
 use native.Mathlib.Omega.{arith}
 use lib.ListN.{length}
-use borrow.Author.Needs.{needs}
 use Rattle.seq.specs.Cat.Laws.{lent}
 use Rattle.load.specs.Pilots.{pilots}
 use Rattle.judge.proofs.Onward.{plain-next, spread-next}
-use Rattle.judge.proofs.Placed.{row-within, row-small}
+use Rattle.judge.proofs.Placed.{Lent, row-lent, row-within}
 use Rattle.judge.proofs.judge_symbol.Statement.{statement}
 use Rattle.judge.proofs.judge_symbol.Tie as tie
 
@@ -18,35 +17,32 @@ within3 b = row-within (b .args .s) (b .pre .0 .cells) (b .args .t) 3 _ (b .pre 
 within : (b : tie.Start) → b .args .t * (b .args .s .dc * b .args .m .bps) + b .args .s .dc * b .args .m .bps ≤ length (b .args .answer .now)
 within b = row-within (b .args .s) (b .pre .0 .cells) (b .args .t) (b .args .m .bps) _ (b .pre .1 .readable .symbol) (b .pre .1 .long-answer)
 
-small3 : (b : tie.Start) → b .args .t * (b .args .s .dc * 3) + b .args .s .dc * 3 ≤ 708936
-small3 b = row-small (b .args .s) (b .pre .0 .cells) (b .args .t) 3 (b .pre .1 .readable .symbol) (omega arith)
+lent-row : (b : tie.Start) → Lent (b .args .t) (b .args .s .dc * 3)
+lent-row b = row-lent (b .args .s) (b .pre .0 .cells) (b .args .t) 3 (b .pre .1 .readable .symbol) (omega arith)
 
-small : (b : tie.Start) → b .args .t * (b .args .s .dc * b .args .m .bps) + b .args .s .dc * b .args .m .bps ≤ 708936
-small b = row-small (b .args .s) (b .pre .0 .cells) (b .args .t) (b .args .m .bps) (b .pre .1 .readable .symbol) (b .pre .1 .readable .bits)
+lent-out : (b : tie.Start) → Lent (b .args .t) (b .args .s .dc * b .args .m .bps)
+lent-out b = row-lent (b .args .s) (b .pre .0 .cells) (b .args .t) (b .args .m .bps) (b .pre .1 .readable .symbol) (b .pre .1 .readable .bits)
 
 mul-w : tie.Need-mul-w
-mul-w c = omega (arith, small3 (c .before .before .before .before .before .before .before .before .before .before .before .before))
+mul-w c = lent-row (c .before .before .before .before .before .before .before .before .before .before .before .before) .wide
 
 mul-v : tie.Need-mul-v
-mul-v c = omega (arith, small (c .before .before .before .before .before .before .before .before .before .before .before .before .before .before))
+mul-v c = lent-out (c .before .before .before .before .before .before .before .before .before .before .before .before .before .before) .wide
 
-mul-row : tie.Need-mul-row
-mul-row c = omega (arith, small3 (c .before .before .before .before .before .before .before .before .before .before .before .before .before .before))
-
-mul-row-2 : tie.Need-mul-row-2
-mul-row-2 c = omega (arith, small3 (c .before .before .before .before .before .before .before .before .before .before .before .before .before .before))
+mul-row-at : tie.Need-mul-row-at
+mul-row-at c = lent-row (c .before .before .before .before .before .before .before .before .before .before .before .before .before .before) .from
 
 add-row : tie.Need-add-row
-add-row c = omega (arith, small3 (c .before .before .before .before .before .before .before .before .before .before .before .before .before .before))
+add-row c = lent-row (c .before .before .before .before .before .before .before .before .before .before .before .before .before .before) .to
 
-mul-row-3 : tie.Need-mul-row-3
-mul-row-3 c = omega (arith, small3 (c .before .before .before .before .before .before .before .before .before .before .before .before .before .before))
+mul-row : tie.Need-mul-row
+mul-row c = lent-row (c .before .before .before .before .before .before .before .before .before .before .before .before .before .before) .offset
 
 sub-row : tie.Need-sub-row
-sub-row c = search needs
+sub-row c = lent-row (c .before .before .before .before .before .before .before .before .before .before .before .before .before .before) .forward
 
 part-row-start : tie.Need-part-row-start
-part-row-start c = search needs
+part-row-start c = lent-row (c .before .before .before .before .before .before .before .before .before .before .before .before .before .before) .forward
 
 part-row-end : tie.Need-part-row-end
 part-row-end c = within3 (c .before .before .before .before .before .before .before .before .before .before .before .before .before .before)
@@ -56,23 +52,20 @@ estimate-row-requires c κs =
     let b = c .before .before .before .before .before .before .before .before .before .before .before .before .before .before .before .before in
     (b .pre .0, b .pre .1 .readable .symbol, lent (b .args .t * (b .args .s .dc * 3)) (b .args .s .dc * 3) (b .args .channel .now) (within3 b))
 
-mul-out : tie.Need-mul-out
-mul-out c = omega (arith, small (c .before .before .before .before .before .before .before .before .before .before .before .before .before .before .before .before .before .before .before))
-
-mul-out-2 : tie.Need-mul-out-2
-mul-out-2 c = omega (arith, small (c .before .before .before .before .before .before .before .before .before .before .before .before .before .before .before .before .before .before .before))
+mul-out-at : tie.Need-mul-out-at
+mul-out-at c = lent-out (c .before .before .before .before .before .before .before .before .before .before .before .before .before .before .before .before .before .before .before) .from
 
 add-out : tie.Need-add-out
-add-out c = omega (arith, small (c .before .before .before .before .before .before .before .before .before .before .before .before .before .before .before .before .before .before .before))
+add-out c = lent-out (c .before .before .before .before .before .before .before .before .before .before .before .before .before .before .before .before .before .before .before) .to
 
-mul-out-3 : tie.Need-mul-out-3
-mul-out-3 c = omega (arith, small (c .before .before .before .before .before .before .before .before .before .before .before .before .before .before .before .before .before .before .before))
+mul-out : tie.Need-mul-out
+mul-out c = lent-out (c .before .before .before .before .before .before .before .before .before .before .before .before .before .before .before .before .before .before .before) .offset
 
 sub-out : tie.Need-sub-out
-sub-out c = search needs
+sub-out c = lent-out (c .before .before .before .before .before .before .before .before .before .before .before .before .before .before .before .before .before .before .before) .forward
 
 part-out-start : tie.Need-part-out-start
-part-out-start c = search needs
+part-out-start c = lent-out (c .before .before .before .before .before .before .before .before .before .before .before .before .before .before .before .before .before .before .before) .forward
 
 part-out-end : tie.Need-part-out-end
 part-out-end c = within (c .before .before .before .before .before .before .before .before .before .before .before .before .before .before .before .before .before .before .before)
@@ -83,10 +76,10 @@ despread-row-requires c κs =
     (b .pre .0 .cells, b .pre .1 .readable, b .pre .1 .spread (c .before .if1 .taken), c .before .before .before .before .before .estimate-row .kept .1 .1 .1 .1 .1 .1 .1 .1 .1 .0 ∙ lent (b .args .t * (b .args .s .dc * 3)) (b .args .s .dc * 3) (b .args .channel .now) (within3 b), lent (b .args .t * (b .args .s .dc * b .args .m .bps)) (b .args .s .dc * b .args .m .bps) (b .args .answer .now) (within b))
 
 same-length : tie.Need-same-length
-same-length c = search needs
+same-length c = c .before .before .before .row4 .given .1
 
 same-length-2 : tie.Need-same-length-2
-same-length-2 c = search needs
+same-length-2 c = c .before .answer .given .1
 
 returns : tie.Need-returns
 returns c =
@@ -102,10 +95,10 @@ demap-row-requires c κs =
     (b .pre .0 .cells, b .pre .1 .readable, c .before .before .before .before .before .estimate-row .kept .1 .1 .1 .1 .1 .1 .1 .1 .1 .0 ∙ lent (b .args .t * (b .args .s .dc * 3)) (b .args .s .dc * 3) (b .args .channel .now) (within3 b), lent (b .args .t * (b .args .s .dc * b .args .m .bps)) (b .args .s .dc * b .args .m .bps) (b .args .answer .now) (within b))
 
 same-length-3 : tie.Need-same-length-3
-same-length-3 c = search needs
+same-length-3 c = c .before .before .before .row6 .given .1
 
 same-length-4 : tie.Need-same-length-4
-same-length-4 c = search needs
+same-length-4 c = c .before .answer2 .given .1
 
 returns-2 : tie.Need-returns-2
 returns-2 c =
@@ -121,18 +114,16 @@ judge-symbol-spec =
     (tie.spec
     mul-w
     mul-v
-    mul-row
-    mul-row-2
+    mul-row-at
     add-row
-    mul-row-3
+    mul-row
     sub-row
     part-row-start
     part-row-end
     estimate-row-requires
-    mul-out
-    mul-out-2
+    mul-out-at
     add-out
-    mul-out-3
+    mul-out
     sub-out
     part-out-start
     part-out-end

@@ -15,7 +15,10 @@ backward-requires c κs = search needs
 
 returns : tie.Need-returns
 unfolding solveSpd
-returns c = (cc, cc)
+returns c =
+    let forward = c .before .before .before in
+    let factored = forward .before .before .factorise .ensures in
+    (factored, rw (c .backward .ensures, forward .forward .ensures, factored))
 
 pub solve-spd-spec : {M : Type 1} → statement M
 solve-spd-spec = tie.close (tie.spec factorise-requires forward-requires backward-requires returns)

@@ -13,7 +13,7 @@ mul-requires-2 : tie.Need-mul-requires-2
 mul-requires-2 c κs = search needs
 
 returns : tie.Need-returns
-returns c = cc
+returns c = rw (c .mul2 .ensures, c .before .sub .ensures, c .before .before .mul .ensures)
 
 pub rest-spec : {M : Type 1} → statement M
 rest-spec = tie.close (tie.spec mul-requires sub-requires mul-requires-2 returns)

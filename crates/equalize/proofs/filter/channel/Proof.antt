@@ -12,7 +12,7 @@ scale-requires c κs = search needs
 
 returns : tie.Need-returns
 unfolding channelOf
-returns c = cc
+returns c = rw (c .scale .ensures, c .before .get .ensures)
 
 pub channel-spec : {M : Type 1} → statement M
 channel-spec = tie.close (tie.spec get-requires scale-requires returns)

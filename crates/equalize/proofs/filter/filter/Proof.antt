@@ -15,7 +15,7 @@ scale-requires c κs = search needs
 
 returns : tie.Need-returns
 unfolding filterOf
-returns c = cc
+returns c = rw (c .scale .ensures, c .before .max32 .ensures, c .before .before .conj .ensures)
 
 pub filter-spec : {M : Type 1} → statement M
 filter-spec = tie.close (tie.spec conj-requires max32-requires scale-requires returns)

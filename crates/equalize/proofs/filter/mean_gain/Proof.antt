@@ -12,7 +12,7 @@ max32-requires c κs = search needs
 
 returns : tie.Need-returns
 unfolding muOf
-returns c = cc
+returns c = rw (c .max32 .ensures, c .before .mean .ensures)
 
 pub mean-gain-spec : {M : Type 1} → statement M
 mean-gain-spec = tie.close (tie.spec mean-requires max32-requires returns)

@@ -9,7 +9,7 @@ mul-requires c κs = search needs
 
 returns : tie.Need-returns
 unfolding passedOf
-returns c = cc
+returns c = rw (c .mul .ensures)
 
 pub passed-spec : {M : Type 1} → statement M
 passed-spec = tie.close (tie.spec mul-requires returns)

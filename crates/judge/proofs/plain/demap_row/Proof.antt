@@ -1,18 +1,18 @@
 -- `demap_row` meets its contract: before each turn the likelihoods of the cells below j are written. Assumes nothing.
 use Prim.Native.Nat.{_≤_, _<_, _+_, _-_, _*_}
 use mathlib.Core.List.{_++_}
-use mathlib.Core.Path.{_≡_, refl}
+use mathlib.Core.Path.{_≡_, refl, _∙_}
 use native.Mathlib.Omega.{arith}
 use lib.ListN.{length, drop}
 use borrow.Author.Needs.{needs}
-use Rattle.seq.specs.Cat.Laws.{cat-none, stretch, lent}
+use Rattle.seq.specs.Cat.Laws.{cat-none, lent}
 use Rattle.seq.specs.Cat.{cat}
 use Rattle.load.specs.Fit.{ncell}
 use Rattle.judge.specs.Cells.{estimateIn}
 use Rattle.judge.specs.Judge.{demapped}
-use Rattle.judge.proofs.Rows.{row-length, row-step, row-end}
+use Rattle.judge.proofs.Rows.{row-inside, one-more, one-less, next-fits, row-step, row-end}
 use Rattle.judge.proofs.Laws.{length-demapped}
-use Rattle.judge.proofs.Placed.{row-cell, few-cells}
+use Rattle.judge.proofs.Placed.{Lent, cell-lent, few-carriers, row-cell, few-cells}
 use Rattle.judge.proofs.plain.demap_row.Statement.{statement}
 use Rattle.judge.proofs.plain.demap_row.Tie as tie
 
@@ -27,10 +27,13 @@ abbrev start : tie.At-loop Inv-loop μ-loop → tie.Start Inv-loop μ-loop
 start l = l .before .before .before .before .before
 
 inside : (c : tie.In-loop Inv-loop μ-loop) → c .before .loop .j * start (c .before) .args .bps + start (c .before) .args .bps ≤ length (c .before .loop .out)
-inside c = let b = start (c .before) in omega (arith, stretch (c .before .loop .j) (b .args .s .dc) (b .args .bps) (length (b .args .out .now)) (omega arith) (omega (arith, b .pre .3)), c .before .loop .inv .1)
+inside c = let b = start (c .before) in row-inside (c .before .loop .j) (b .args .s .dc) (b .args .bps) (b .args .out .now) (c .before .loop .out) (c .loop-test .taken) (b .pre .3) (c .before .loop .inv .1)
+
+lending : (c : tie.In-loop Inv-loop μ-loop) → Lent (c .before .loop .j) (start (c .before) .args .bps)
+lending c = let b = start (c .before) in cell-lent (c .before .loop .j) (b .args .s .dc) (b .args .bps) (c .loop-test .taken) (few-carriers (b .args .s) (b .pre .0)) (b .pre .1 .bits)
 
 within : (c : tie.In-loop Inv-loop μ-loop) → start (c .before) .args .t * start (c .before) .args .s .dc + c .before .loop .j < ncell (start (c .before) .args .s)
-within c = let b = start (c .before) in row-cell (b .args .s) (b .pre .0) (b .args .t) (c .before .loop .j) (b .pre .1 .symbol) (omega arith)
+within c = let b = start (c .before) in row-cell (b .args .s) (b .pre .0) (b .args .t) (c .before .loop .j) (b .pre .1 .symbol) (c .loop-test .taken)
 
 small : (c : tie.In-loop Inv-loop μ-loop) → ncell (start (c .before) .args .s) ≤ 118156
 small c = few-cells (start (c .before) .args .s) (start (c .before) .pre .0)
@@ -41,26 +44,23 @@ part-length l k = length-demapped _ _ _ _ _ _ _
 loop-holds : tie.Need-loop-holds Inv-loop μ-loop
 loop-holds c = (omega arith, refl, cat-none (c .before .before .before .before .args .bps) _ _)
 
-mul-stretch : tie.Need-mul-stretch Inv-loop μ-loop
-mul-stretch c = omega (arith, inside c)
-
-mul-stretch-2 : tie.Need-mul-stretch-2 Inv-loop μ-loop
-mul-stretch-2 c = omega (arith, inside c)
+mul-at : tie.Need-mul-at Inv-loop μ-loop
+mul-at c = lending c .from
 
 add-stretch : tie.Need-add-stretch Inv-loop μ-loop
-add-stretch c = omega (arith, inside c)
+add-stretch c = lending c .to
 
-mul-stretch-3 : tie.Need-mul-stretch-3 Inv-loop μ-loop
-mul-stretch-3 c = omega (arith, inside c)
+mul-stretch : tie.Need-mul-stretch Inv-loop μ-loop
+mul-stretch c = lending c .offset
 
 sub-stretch : tie.Need-sub-stretch Inv-loop μ-loop
-sub-stretch c = search needs
+sub-stretch c = lending c .forward
 
 part-stretch-start : tie.Need-part-stretch-start Inv-loop μ-loop
-part-stretch-start c = search needs
+part-stretch-start c = lending c .forward
 
 part-stretch-end : tie.Need-part-stretch-end Inv-loop μ-loop
-part-stretch-end c = omega (arith, inside c)
+part-stretch-end c = inside c
 
 mul-demap-cell : tie.Need-mul-demap-cell Inv-loop μ-loop
 mul-demap-cell c = omega (arith, within (c .before), small (c .before))
@@ -78,10 +78,10 @@ demap-cell-requires c κs =
     (b .pre .0, within i, b .pre .1 .long-grid, b .pre .1 .long-cells, b .pre .1 .bits, lent (i .before .loop .j * b .args .bps) (b .args .bps) (i .before .loop .out) (inside i))
 
 add-j : tie.Need-add-j Inv-loop μ-loop
-add-j c = search needs
+add-j c = let i = c .before .before .before .before .before in next-fits (i .loop-test .taken) (few-carriers (start (i .before) .args .s) (start (i .before) .pre .0))
 
 loop-less : tie.Need-loop-less Inv-loop μ-loop
-loop-less c = search needs
+loop-less c = one-less (c .before .before .before .before .before .loop-test .taken)
 
 loop-again : tie.Need-loop-again Inv-loop μ-loop
 loop-again c =
@@ -89,7 +89,7 @@ loop-again c =
     let l = d .before .before .before .before in
     let b = start l in
     let r = row-step (b .args .bps) _ (part-length l) (l .loop .j) (b .args .out .now) (l .loop .out) _ (l .loop .inv .2) (rw (d .before .estimate-in .ensures) at (d .demap-cell .ensures)) in
-    (omega arith, row-length (b .args .bps) _ (part-length l) (l .loop .j + 1) (b .args .out .now) _ (omega (arith, inside (d .before .before .before), l .loop .inv .1)) r, r)
+    (one-more (d .before .before .before .loop-test .taken), c .before .out .given .1 ∙ l .loop .inv .1, r)
 
 same-length : tie.Need-same-length Inv-loop μ-loop
 same-length c = c .before .loop .inv .1
@@ -98,7 +98,7 @@ returns : tie.Need-returns Inv-loop μ-loop
 returns c =
     let l = c .before in
     let b = start l in
-    row-end (b .args .bps) _ (part-length l) (l .loop .j) (b .args .s .dc) (b .args .out .now) (l .loop .out) (l .loop .inv .0) (omega arith) (b .pre .3) (l .loop .inv .2)
+    row-end (b .args .bps) _ (part-length l) (l .loop .j) (b .args .s .dc) (b .args .out .now) (l .loop .out) (l .loop .inv .0) (c .loop-test .left) (b .pre .3) (l .loop .inv .2)
 
 pub demap-row-spec : {M : Type 1} → statement M
 demap-row-spec =
@@ -107,10 +107,9 @@ demap-row-spec =
     Inv-loop
     μ-loop
     loop-holds
-    mul-stretch
-    mul-stretch-2
+    mul-at
     add-stretch
-    mul-stretch-3
+    mul-stretch
     sub-stretch
     part-stretch-start
     part-stretch-end

@@ -40,7 +40,7 @@ loop-less c = search needs
 
 loop-again : tie.Need-loop-again Inv-loop μ-loop
 unfolding psk8Turn
-loop-again c = (search needs, for-step _ 0 _ _ _ _ (search needs) (c .before .before .before .before .before .loop .inv .1) (cc))
+loop-again c = (search needs, for-step _ 0 _ _ _ _ (search needs) (c .before .before .before .before .before .loop .inv .1) (rw (c .put .ensures, c .before .on-circle .ensures, c .before .before .gray8 .ensures .0)))
 
 returns : tie.Need-returns Inv-loop μ-loop
 unfolding psk8Of

@@ -37,7 +37,7 @@ loop-less : tie.Need-loop-less Inv-loop μ-loop
 loop-less c = search needs
 
 loop-again : tie.Need-loop-again Inv-loop μ-loop
-loop-again c = (search needs, for-step _ 0 _ _ _ _ (search needs) (c .before .before .before .loop .inv .1) (cc))
+loop-again c = (search needs, for-step _ 0 _ _ _ _ (search needs) (c .before .before .before .loop .inv .1) (c .qam-row .ensures))
 
 mul-t9 : tie.Need-mul-t9 Inv-loop μ-loop
 mul-t9 c = search needs

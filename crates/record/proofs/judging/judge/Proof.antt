@@ -6,7 +6,7 @@ use borrow.Author.Needs.{needs}
 use lib.ListN.{length, take}
 use lib.Seq.{length-take-le}
 use Rattle.wire.specs.declared.shape.Sizes.{Sizes}
-use Rattle.record.proofs.Cutting.{few, bits-in, cells-in}
+use Rattle.record.proofs.Cutting.{few, prefix-in, bits-in, cells-in}
 use Rattle.record.proofs.Judged.{in-bytes, judges}
 use Rattle.record.proofs.judging.judge.Statement.{statement}
 use Rattle.record.proofs.judging.judge.Tie as tie
@@ -33,18 +33,18 @@ mul-m : tie.Need-mul-m
 mul-m c = omega (arith, few _ _ (c .before .sizes-of .ensures) (c .before .before .before .before .before .before .before .before .before .before .before .before .pre .0 .short) .cells)
 
 array-share-prefix-answer : tie.Need-array-share-prefix-answer
-array-share-prefix-answer c = omega (arith, few _ _ (c .before .sizes-of .ensures) (c .before .before .before .before .before .before .before .before .before .before .before .before .pre .0 .short) .bits, c .before .before .before .before .refine-numbers .kept .1 .1 .0, c .before .before .before .before .before .before .before .before .likelihoods .ensures)
+array-share-prefix-answer c = prefix-in (few _ _ (c .before .sizes-of .ensures) (c .before .before .before .before .before .before .before .before .before .before .before .before .pre .0 .short) .bits) (c .before .before .before .before .refine-numbers .kept .1 .1 .0) (c .before .before .before .before .before .before .before .before .likelihoods .ensures)
 
 slice-aggregate-put-refinement : tie.Need-slice-aggregate-put-refinement
 slice-aggregate-put-refinement c =
-    sym (length-take-le _ (c .before .before .before .before .before .refine-numbers .last .1 .1 .0) (omega (arith, few _ _ (c .before .before .sizes-of .ensures) (c .before .before .before .before .before .before .before .before .before .before .before .before .before .pre .0 .short) .bits, c .before .before .before .before .before .refine-numbers .kept .1 .1 .0, c .before .before .before .before .before .before .before .before .before .likelihoods .ensures)))
+    sym (length-take-le _ (c .before .before .before .before .before .refine-numbers .last .1 .1 .0) (prefix-in (few _ _ (c .before .before .sizes-of .ensures) (c .before .before .before .before .before .before .before .before .before .before .before .before .before .pre .0 .short) .bits) (c .before .before .before .before .before .refine-numbers .kept .1 .1 .0) (c .before .before .before .before .before .before .before .before .before .likelihoods .ensures)))
 
 array-share-prefix-found : tie.Need-array-share-prefix-found
-array-share-prefix-found c = omega (arith, few _ _ (c .before .before .sizes-of .ensures) (c .before .before .before .before .before .before .before .before .before .before .before .before .before .pre .0 .short) .cells, c .before .before .before .before .before .refine-numbers .kept .1 .1 .1 .0, c .before .before .before .before .before .before .before .before .estimates .ensures)
+array-share-prefix-found c = prefix-in (few _ _ (c .before .before .sizes-of .ensures) (c .before .before .before .before .before .before .before .before .before .before .before .before .before .pre .0 .short) .cells) (c .before .before .before .before .before .refine-numbers .kept .1 .1 .1 .0) (c .before .before .before .before .before .before .before .before .estimates .ensures)
 
 slice-aggregate-put-refinement-2 : tie.Need-slice-aggregate-put-refinement-2
 slice-aggregate-put-refinement-2 c =
-    sym (length-take-le _ (c .before .before .before .before .before .before .refine-numbers .last .1 .1 .1 .0) (omega (arith, few _ _ (c .before .before .before .sizes-of .ensures) (c .before .before .before .before .before .before .before .before .before .before .before .before .before .before .pre .0 .short) .cells, c .before .before .before .before .before .before .refine-numbers .kept .1 .1 .1 .0, c .before .before .before .before .before .before .before .before .before .estimates .ensures)))
+    sym (length-take-le _ (c .before .before .before .before .before .before .refine-numbers .last .1 .1 .1 .0) (prefix-in (few _ _ (c .before .before .before .sizes-of .ensures) (c .before .before .before .before .before .before .before .before .before .before .before .before .before .before .pre .0 .short) .cells) (c .before .before .before .before .before .before .refine-numbers .kept .1 .1 .1 .0) (c .before .before .before .before .before .before .before .before .before .estimates .ensures)))
 
 put-refinement-requires : tie.Need-put-refinement-requires
 put-refinement-requires c κs =
@@ -53,16 +53,16 @@ put-refinement-requires c κs =
     let e = c .before .before .before .before .before .sizes-of .ensures in
     let h = few _ _ e (s .pre .0 .short) in
     let n : length (take (c .before .before .before .before .before .sizes-of .result .nbits) (k .last .1 .1 .0)) ≡ c .before .before .before .before .before .sizes-of .result .nbits =
-    length-take-le _ (k .last .1 .1 .0) (omega (arith, h .bits, k .kept .1 .1 .0, c .before .before .before .before .before .before .before .before .before .before .before .before .likelihoods .ensures)) in
+    length-take-le _ (k .last .1 .1 .0) (prefix-in (h .bits) (k .kept .1 .1 .0) (c .before .before .before .before .before .before .before .before .before .before .before .before .likelihoods .ensures)) in
     let m : length (take (3 * c .before .before .before .before .before .sizes-of .result .ncell) (k .last .1 .1 .1 .0)) ≡ 3 * c .before .before .before .before .before .sizes-of .result .ncell =
-    length-take-le _ (k .last .1 .1 .1 .0) (omega (arith, h .cells, k .kept .1 .1 .1 .0, c .before .before .before .before .before .before .before .before .before .before .before .estimates .ensures)) in
+    length-take-le _ (k .last .1 .1 .1 .0) (prefix-in (h .cells) (k .kept .1 .1 .1 .0) (c .before .before .before .before .before .before .before .before .before .before .before .estimates .ensures)) in
     (in-bytes _ _ _ _ _ _ _ (k .ensures), omega (arith, n, s .pre .1, ap (λ (z : Sizes). z .nbits) e), omega (arith, m, s .pre .2, ap (λ (z : Sizes). z .ncell) e))
 
 same-length : tie.Need-same-length
-same-length c = search needs
+same-length c = c .before .before .before .before .put-refinement .kept .1 .1 .1 .0
 
 same-length-2 : tie.Need-same-length-2
-same-length-2 c = search needs
+same-length-2 c = c .before .before .before .before .put-refinement .kept .1 .1 .1 .1 .0
 
 returns : tie.Need-returns
 returns c =

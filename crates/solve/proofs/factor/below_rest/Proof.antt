@@ -30,7 +30,7 @@ loop-less : tie.Need-loop-less Inv-loop μ-loop
 loop-less c = omega arith
 
 loop-again : tie.Need-loop-again Inv-loop μ-loop
-loop-again c = (omega arith, omega arith, for-step _ _ _ _ _ _ (omega arith) (c .before .before .before .before .before .loop .inv .2) (cc))
+loop-again c = (omega arith, omega arith, for-step _ _ _ _ _ _ (omega arith) (c .before .before .before .before .before .loop .inv .2) (rw (c .put .ensures, c .before .before .reduce .ensures)))
 
 returns : tie.Need-returns Inv-loop μ-loop
 returns c = for-end _ _ _ _ _ _ (omega arith) (omega arith) (c .before .loop .inv .2)

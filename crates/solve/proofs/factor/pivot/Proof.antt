@@ -24,7 +24,10 @@ sqrt64-requires c κs = search needs
 
 returns : tie.Need-returns
 unfolding diagonal
-returns c = cc
+returns c =
+    let most = c .before .before in
+    let got = most .before .before in
+    rw (c .sqrt64 .ensures, c .before .max642 .ensures, most .max64 .ensures, most .before .abs64 .ensures, got .get .ensures, got .before .reduce .ensures)
 
 pub pivot-spec : {M : Type 1} → statement M
 pivot-spec =

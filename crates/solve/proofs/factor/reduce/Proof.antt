@@ -34,7 +34,7 @@ loop-less : tie.Need-loop-less Inv-loop μ-loop
 loop-less c = omega arith
 
 loop-again : tie.Need-loop-again Inv-loop μ-loop
-loop-again c = (omega arith, for-step _ 0 _ _ _ _ (omega arith) (c .before .before .before .loop .inv .1) (cc))
+loop-again c = (omega arith, for-step _ 0 _ _ _ _ (omega arith) (c .before .before .before .loop .inv .1) (rw (c .before .get2 .ensures, c .get3 .ensures)))
 
 returns : tie.Need-returns Inv-loop μ-loop
 unfolding reduced

@@ -32,10 +32,14 @@ put-requires-4 c κs = search needs
 
 returns : tie.Need-returns
 returns c =
-    let called = c .before .before .before .before .before .before .before .before .before .before .before .before in
+    let third = c .before .before .before in
+    let second = third .before .before .before in
+    let first = second .before .before .before in
+    let called = first .before .before .before in
     let rows = called .reduce4 .ensures in
     let args = called .before .before .args in
-    cc (rows .row0, rows .row1, rows .row2, rows .row3, together (args .j) (omega arith) (now (args .a)) (args .i) (args .d))
+    rw (c .put4 .ensures, third .put3 .ensures, second .put2 .ensures, first .put .ensures, rows .row0, rows .row1, rows .row2, rows .row3)
+    (together (args .j) (omega arith) (now (args .a)) (args .i) (args .d))
 
 pub below4-spec : {M : Type 1} → statement M
 below4-spec =

@@ -37,7 +37,7 @@ loop-less : tie.Need-loop-less Inv-loop μ-loop
 loop-less c = omega arith
 
 loop-again : tie.Need-loop-again Inv-loop μ-loop
-loop-again c = (omega arith, back-step _ _ _ _ _ (omega arith) (c .before .before .before .before .loop .inv .1) (cc))
+loop-again c = (omega arith, back-step _ _ _ _ _ (omega arith) (c .before .before .before .before .loop .inv .1) (rw (c .before .backward-sum .ensures, c .get .ensures)))
 
 returns : tie.Need-returns Inv-loop μ-loop
 unfolding backward

@@ -43,7 +43,7 @@ loop-less : tie.Need-loop-less Inv-loop μ-loop
 loop-less c = omega arith
 
 loop-again : tie.Need-loop-again Inv-loop μ-loop
-loop-again c = (omega arith, omega arith, for-step _ _ _ _ _ _ (omega arith) (c .before .before .before .loop .inv .2) (cc))
+loop-again c = (omega arith, omega arith, for-step _ _ _ _ _ _ (omega arith) (c .before .before .before .loop .inv .2) (rw (c .before .get .ensures)))
 
 returns : tie.Need-returns Inv-loop μ-loop
 unfolding backwardSum

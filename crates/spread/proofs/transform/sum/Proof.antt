@@ -54,7 +54,7 @@ loop-again c =
       (
         rw (c .next .ensures) (next-lt (s .m) (s .k) (l .idx) (l .inv .1 .0) (b .pre .0)),
         for-step (turn (s .m) (s .tw .now) (s .inverse) (s .a .now) (s .k)) 0 (l .j) start (state (l .acc) (l .idx)) _ (omega arith) (l .inv .1 .1)
-            (ap₂ state (cc) (c .next .ensures)),
+            (ap₂ state (rw (c .before .add .ensures, c .before .before .mul .ensures, c .before .before .before .factor .ensures, c .before .before .before .before .get .ensures)) (c .next .ensures)),
       ),
     )
 

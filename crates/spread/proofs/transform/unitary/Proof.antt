@@ -17,7 +17,7 @@ sqrt32-requires c κs = search needs
 
 returns : tie.Need-returns
 unfolding unitary
-returns c = cc
+returns c = rw (c .sqrt32 .ensures)
 
 pub unitary-spec : {M : Type 1} → statement M
 unitary-spec = tie.close (tie.spec int-to-float-sqrt32 sqrt32-requires returns)

@@ -25,7 +25,7 @@ new-requires c κs = search needs
 
 returns : tie.Need-returns
 unfolding twiddle
-returns c = cc
+returns c = rw (c .new .ensures, c .before .narrow2 .ensures, c .before .before .sin .ensures, c .before .before .before .narrow .ensures, c .before .before .before .before .cos .ensures, c .before .before .before .before .before .angle .ensures)
 
 pub twiddle-spec : {M : Type 1} → statement M
 twiddle-spec = tie.close (tie.spec angle-requires cos-requires narrow-requires sin-requires narrow-requires-2 new-requires returns)
