@@ -55,10 +55,10 @@ fn one(t: &mut Tally, i: u64, name: &str, shape: &Shape) {
         times[1].push(taken(|| kept.refine(&b.prior, K)));
         times[2].push(taken(|| published.refine(&b.prior, K)));
     }
-    let r = kept.refine(&b.prior, K);
-    t.same("fd", &[i], ours.report[0] as usize, r.est.index.0);
-    t.same("tm", &[i], ours.report[1] as usize, r.est.index.1);
-    t.same("scale", &[i], ours.scale[0], r.est.mse_scale);
+    let (told, r) = (ours.refine(), kept.refine(&b.prior, K));
+    t.same("fd", &[i], told.fd as usize, r.est.index.0);
+    t.same("tm", &[i], told.tm as usize, r.est.index.1);
+    t.same("scale", &[i], told.scale, r.est.mse_scale);
     r.llrs.iter().enumerate().for_each(|(j, &v)| t.same("likelihood", &[i, j as u64], ours.answer[j], v));
     r.channel().iter().enumerate().for_each(|(j, &v)| t.same("channel", &[i, j as u64], ours.channel[j], v));
     times.iter_mut().for_each(|list| list.sort_by(f64::total_cmp));

@@ -63,18 +63,19 @@ fn symbol(rng: &mut Rng, m: usize, kind: impl Fn(&mut Rng) -> f32) -> Symbol {
 }
 
 fn equalize(t: &mut Tally, s: &Symbol, cause: u32) {
-    let (mut ours, mut out) = (s.clone(), [7.0; 2]);
+    let mut ours = s.clone();
+    let told = ours.fde();
     let args = [s.y.len() as u64, s.h.len() as u64, s.v.len() as u64, s.z.len() as u64, s.gain.bits()];
-    t.same("cause", &args, ours.fde(&mut out), cause);
+    t.same("cause", &args, told.number, cause);
     if cause != 0 {
         t.same("z as before", &args, same(&ours.z, &s.z), true);
-        t.same("out as before", &args, out == [7.0; 2], true);
+        t.same("nothing told", &args, told.values == [0.0; 3], true);
         return;
     }
     let (y, h, mut z) = (complex(&s.y), complex(&s.h), vec![Complex::ZERO; s.v.len()]);
     let (mu, var) = est::fde(&y, &h, &s.v, s.gain, &mut z, &mut Spreader::new(s.v.len()));
-    t.same("mean gain", &args, out[0], mu);
-    t.same("variance", &args, out[1], var);
+    t.same("mean gain", &args, told.values[0], mu);
+    t.same("variance", &args, told.values[1], var);
     let theirs = z.iter().flat_map(|z| [z.re, z.im]);
     ours.z.iter().zip(theirs).for_each(|(&v, e)| t.same("despread", &args, v, e));
 }
@@ -154,7 +155,7 @@ fn halfway(rng: &mut Rng, code: u32, yh: &mut [f32; 4]) {
 
 /// re and im of y, then of h.
 fn decide(t: &mut Tally, code: u32, yh: [f32; 4]) {
-    let mut out = [7.0; 2];
+    let told = asides::decide(code, yh);
     let args = [code as u64, yh[0].bits(), yh[1].bits(), yh[2].bits(), yh[3].bits()];
     let cause = if code > 3 {
         2
@@ -163,16 +164,16 @@ fn decide(t: &mut Tally, code: u32, yh: [f32; 4]) {
     } else {
         0
     };
-    t.same("cause", &args, asides::decide(code, yh, &mut out), cause);
+    t.same("cause", &args, told.number, cause);
     let expected = if cause == 0 {
         let (y, h) = (Complex::new(yh[0], yh[1]), Complex::new(yh[2], yh[3]));
         let x = est::decide(y, h, &Constellation::from_code(code as u8).points());
         [x.re, x.im]
     } else {
-        [7.0; 2]
+        [0.0; 2]
     };
-    t.same("point, re", &args, out[0], expected[0]);
-    t.same("point, im", &args, out[1], expected[1]);
+    t.same("point, re", &args, told.values[0], expected[0]);
+    t.same("point, im", &args, told.values[1], expected[1]);
 }
 
 // ---- bursts
@@ -262,15 +263,16 @@ pub fn compare_power() -> Tally {
         let e = loaded(&b);
         met.add(&b, &e);
         let extra = rng.pick(&[0, 0, 1, 5]);
-        let mut out = [7.0];
-        t.same("cause", &shown(&b), call(&mut rng, &b, extra).channel_power(&mut out), 0);
-        t.same("power", &shown(&b), out[0], e.channel_power());
+        let told = call(&mut rng, &b, extra).channel_power();
+        t.same("cause", &shown(&b), told.number, 0);
+        t.same("power", &shown(&b), told.values[0], e.channel_power());
     }
     met.check(&mut t);
     turned_away(&mut t, &mut rng, |t, c, args, cause| {
-        let (before, mut out) = (c.clone(), [7.0]);
-        t.same("cause", args, c.channel_power(&mut out), cause);
-        t.same("as before", args, cause == 0 || out == [7.0] && work_kept(c, &before), true);
+        let before = c.clone();
+        let told = c.channel_power();
+        t.same("cause", args, told.number, cause);
+        t.same("as before", args, cause == 0 || told.values == [0.0; 3] && work_kept(c, &before), true);
     });
     t
 }
@@ -319,10 +321,10 @@ fn places(t: &mut Tally, rng: &mut Rng, b: &Burst, e: &mut Estimator) {
 
 fn single(t: &mut Tally, c: &mut Call, (carrier, symbol): (usize, usize), args: &[u64], cause: u32) -> [f32; 3] {
     let before = (cause != 0).then(|| c.clone());
-    let mut out = [7.0; 3];
-    t.same("cause", args, c.single_estimate(carrier, symbol, &mut out), cause);
+    let told = c.single_estimate(carrier, symbol);
+    t.same("cause", args, told.number, cause);
     if let Some(before) = before {
-        t.same("as before", args, out == [7.0; 3] && work_kept(c, &before), true);
+        t.same("as before", args, told.values == [0.0; 3] && work_kept(c, &before), true);
     }
-    out
+    told.values
 }

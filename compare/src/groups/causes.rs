@@ -12,19 +12,19 @@ type Change = (u32, fn(&mut Call));
 
 /// On what every entry reads and on the work area.
 pub const CHANGES: &[Change] = &[
-    (1, |c| c.layout = 9),
-    (1, |c| c.layout = 256),
-    (1, |c| c.layout = u32::MAX),
-    (2, |c| c.constellation = 4),
-    (2, |c| c.constellation = 256),
-    (2, |c| c.constellation = u32::MAX),
-    (2, |c| c.gain_code = 4),
-    (2, |c| c.gain_code = 256),
-    (2, |c| c.gain_code = u32::MAX),
-    (3, |c| c.nsym = 0),
-    (3, |c| c.nsym = 1024),
-    (3, |c| c.nsym += 1 << 32),
-    (3, |c| c.nsym = usize::MAX),
+    (1, |c| c.settings.layout = 9),
+    (1, |c| c.settings.layout = 256),
+    (1, |c| c.settings.layout = u32::MAX),
+    (2, |c| c.settings.constellation = 4),
+    (2, |c| c.settings.constellation = 256),
+    (2, |c| c.settings.constellation = u32::MAX),
+    (2, |c| c.settings.gain_code = 4),
+    (2, |c| c.settings.gain_code = 256),
+    (2, |c| c.settings.gain_code = u32::MAX),
+    (3, |c| c.settings.nsym = 0),
+    (3, |c| c.settings.nsym = 1024),
+    (3, |c| c.settings.nsym += 1 << 32),
+    (3, |c| c.settings.nsym = usize::MAX),
     (4, |c| shorten(&mut c.grid)),
     (4, |c| c.grid.push(0.0)),
     (4, |c| c.grid.clear()),
@@ -54,21 +54,21 @@ pub const CHANGES: &[Change] = &[
     (7, |c| first(&mut c.prior, f32::NAN)),
     (7, |c| last(&mut c.prior, f32::INFINITY)),
     (7, |c| last(&mut c.prior, f32::NEG_INFINITY)),
-    (7, |c| c.boost = 0.1249),
-    (7, |c| c.boost = 8.001),
-    (7, |c| c.boost = -1.0),
-    (7, |c| c.boost = f32::NAN),
-    (7, |c| c.boost = f32::INFINITY),
-    (7, |c| c.pilot_gain = 0.1249),
-    (7, |c| c.pilot_gain = 8.001),
-    (7, |c| c.pilot_gain = -1.0),
-    (7, |c| c.pilot_gain = f32::NAN),
-    (7, |c| c.pilot_gain = f32::INFINITY),
-    (7, |c| c.p_h = 0.0),
-    (7, |c| c.p_h = -0.0),
-    (7, |c| c.p_h = -1.0),
-    (7, |c| c.p_h = f32::NAN),
-    (7, |c| c.p_h = f32::INFINITY),
+    (7, |c| c.settings.boost = 0.1249),
+    (7, |c| c.settings.boost = 8.001),
+    (7, |c| c.settings.boost = -1.0),
+    (7, |c| c.settings.boost = f32::NAN),
+    (7, |c| c.settings.boost = f32::INFINITY),
+    (7, |c| c.settings.pilot_gain = 0.1249),
+    (7, |c| c.settings.pilot_gain = 8.001),
+    (7, |c| c.settings.pilot_gain = -1.0),
+    (7, |c| c.settings.pilot_gain = f32::NAN),
+    (7, |c| c.settings.pilot_gain = f32::INFINITY),
+    (7, |c| c.settings.p_h = 0.0),
+    (7, |c| c.settings.p_h = -0.0),
+    (7, |c| c.settings.p_h = -1.0),
+    (7, |c| c.settings.p_h = f32::NAN),
+    (7, |c| c.settings.p_h = f32::INFINITY),
 ];
 
 /// On the lists that only refine is lent.
@@ -82,17 +82,17 @@ const WRITTEN: &[Change] = &[
 /// Changes that no row turns away.
 pub const FINE: &[fn(&mut Call)] = &[
     |_| {},
-    |c| c.boost = 0.125,
-    |c| c.boost = 8.0,
-    |c| c.pilot_gain = 0.125,
-    |c| c.pilot_gain = 8.0,
-    |c| c.p_h = f32::from_bits(1),
-    |c| c.p_h = f32::MAX,
+    |c| c.settings.boost = 0.125,
+    |c| c.settings.boost = 8.0,
+    |c| c.settings.pilot_gain = 0.125,
+    |c| c.settings.pilot_gain = 8.0,
+    |c| c.settings.p_h = f32::from_bits(1),
+    |c| c.settings.p_h = f32::MAX,
     |c| first(&mut c.sigma, -0.0),
     |c| last(&mut c.cells, -0.0),
     |c| c.prior.push(f32::NAN),
     |c| c.prior.clear(),
-    |c| c.k = usize::MAX,
+    |c| c.settings.k = usize::MAX,
 ];
 
 fn shorten<T>(list: &mut Vec<T>) {
@@ -122,7 +122,7 @@ pub fn compare() -> Tally {
         for (i, change) in FINE.iter().enumerate() {
             let mut c = c.clone();
             change(&mut c);
-            t.same("accepted", &[layout as u64, i as u64], c.refine(), 0);
+            t.same("accepted", &[layout as u64, i as u64], c.refine().number, 0);
         }
         let changes = || CHANGES.iter().chain(WRITTEN).enumerate();
         for (i, one) in changes() {
@@ -142,12 +142,13 @@ fn refused(t: &mut Tally, accepted: &Call, number: u32, args: &[u64], changes: &
     let mut c = accepted.clone();
     changes.iter().for_each(|change| change.1(&mut c));
     let before = c.clone();
-    t.same("cause", args, c.refine(), number);
+    let r = c.refine();
+    t.same("cause", args, r.number, number);
     t.same("answer", args, same(&c.answer, &before.answer), true);
     t.same("channel", args, same(&c.channel, &before.channel), true);
     t.same("wf", args, same(&c.wf, &before.wf), true);
     t.same("wu", args, c.wu == before.wu, true);
-    t.same("report", args, c.report == before.report && c.scale == before.scale, true);
+    t.same("nothing told", args, (r.fd, r.tm, r.spoilt, r.scale) == (0, 0, 0, 0.0), true);
 }
 
 /// Bit for bit, every NaN its own.

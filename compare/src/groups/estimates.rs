@@ -3,7 +3,7 @@
 use super::bursts::{Asked, burst};
 use crate::oracle::burst::Burst;
 use crate::oracle::phy::frame::Pilots;
-use crate::probes::estimates::{Model, Work, estimates};
+use crate::probes::estimates::{self as probes, Work};
 use crate::report::Tally;
 use crate::rng::Rng;
 
@@ -34,7 +34,8 @@ fn one(t: &mut Tally, rng: &mut Rng, b: &Burst, n: usize) {
         };
         let scale = rng.pick(&[1.0, 3.7, f32::NAN]);
         let mut out = vec![7.0; 3 * at.len() + 1];
-        let np = estimates(&asked.settings, &asked.lists(b), k, Model { fd, tm, scale }, &at, &mut work, &mut out);
+        let a = probes::Asked { k, fd, tm, scale };
+        let np = probes::estimates(&asked.settings, &asked.lists(b), a, &at, &mut work, &mut out);
         t.same("pilots", &[b.layout as u64], np, est.pilots.len());
         let grid = if b.header().pilots() == Pilots::Sparse { &l.fd_sparse } else { &l.fd };
         let value = |i: u32, list: &[f64; 3], last: f64| if i < 3 { list[i as usize] } else { last };
@@ -54,7 +55,7 @@ fn one(t: &mut Tally, rng: &mut Rng, b: &Burst, n: usize) {
         t.same("past the end", &[b.layout as u64], out[3 * at.len()], 7.0);
         let room = 3 * at.len() - 1;
         let mut short = vec![7.0; room];
-        estimates(&asked.settings, &asked.lists(b), k, Model { fd, tm, scale }, &at, &mut work, &mut short);
+        probes::estimates(&asked.settings, &asked.lists(b), a, &at, &mut work, &mut short);
         t.same("no room", &[b.layout as u64], short.iter().all(|&v| v == 7.0), true);
     }
 }

@@ -2,7 +2,7 @@
 
 use super::bursts::{Asked, burst};
 use crate::oracle::burst::Burst;
-use crate::probes::estimates::{Work, models};
+use crate::probes::estimates::{Selected, Work, models};
 use crate::report::Tally;
 use crate::rng::Rng;
 
@@ -32,12 +32,12 @@ pub fn found() -> [Burst; 2] {
 /// `expected` says how many times the fallback and a scale that is not a number must be met.
 fn one(t: &mut Tally, b: &Burst, expected: (usize, usize)) {
     let (est, asked) = (b.refine().est, Asked::new(b));
-    let (mut work, mut nine) = (Work::new(b.shape().nc, b.symbols()), [7.0; 9]);
-    let (np, m) = models(&asked.settings, &asked.lists(b), b.k, &mut work, &mut nine);
+    let mut work = Work::new(b.shape().nc, b.symbols());
+    let m = models(&asked.settings, &asked.lists(b), b.k, &mut work);
     let args = |i: usize| [b.layout as u64, b.nsym as u64, b.k as u64, i as u64];
-    t.same("pilots", &args(0), np, est.pilots.len());
+    t.same("pilots", &args(0), m.np, est.pilots.len());
     t.same("nine", &args(0), est.residuals.len(), 9);
-    nine.iter().zip(&est.residuals).enumerate().for_each(|(i, (&v, &e))| t.same("residual", &args(i), v, e));
+    m.residuals.iter().zip(&est.residuals).enumerate().for_each(|(i, (&v, &e))| t.same("residual", &args(i), v, e));
     t.same("fd", &args(0), m.fd as usize, est.index.0);
     t.same("tm", &args(0), m.tm as usize, est.index.1);
     t.same("scale", &args(0), m.scale, est.mse_scale);
@@ -50,8 +50,7 @@ fn one(t: &mut Tally, b: &Burst, expected: (usize, usize)) {
     let few = b.grid.len() - 1;
     let mut short = asked.lists(b);
     short.grid = &b.grid[..few];
-    let mut nine = [7.0; 9];
-    let (np, m) = models(&asked.settings, &short, b.k, &mut work, &mut nine);
-    t.same("refused", &args(0), np, 0);
-    t.same("as before", &args(0), nine == [7.0; 9] && m.fd == 7 && m.tm == 7 && m.scale == 7.0, true);
+    let m = models(&asked.settings, &short, b.k, &mut work);
+    t.same("refused", &args(0), m.np, 0);
+    t.same("nothing told", &args(0), m == Selected::NOTHING, true);
 }

@@ -3,7 +3,7 @@
 use super::bursts::fill;
 use super::models::found;
 use crate::oracle::burst::Burst;
-use crate::probes::refinements::Call;
+use crate::probes::refinements::{Call, Settings};
 use crate::report::Tally;
 use crate::rng::Rng;
 
@@ -73,7 +73,7 @@ fn priors(rng: &mut Rng, b: &mut Burst) {
 /// A call for the burst, with `extra` numbers more than needed in each list that is lent.
 pub fn call(rng: &mut Rng, b: &Burst, extra: usize) -> Call {
     let work = b.bits() + 6 * b.grid.len() + extra;
-    Call {
+    let settings = Settings {
         layout: b.layout as u32,
         constellation: b.constellation as u32,
         nsym: b.nsym as usize,
@@ -84,6 +84,9 @@ pub fn call(rng: &mut Rng, b: &Burst, extra: usize) -> Call {
         boost: b.boost,
         pilot_gain: b.pilot_gain,
         p_h: b.p_h,
+    };
+    Call {
+        settings,
         grid: b.grid.clone(),
         sigma: b.carrier_variances.clone(),
         cells: b.cell_variances.clone(),
@@ -92,8 +95,6 @@ pub fn call(rng: &mut Rng, b: &Burst, extra: usize) -> Call {
         channel: (0..3 * b.cells() + extra).map(|_| rng.any32()).collect(),
         wf: (0..work).map(|_| rng.any32()).collect(),
         wu: (0..work).map(|_| rng.bits32()).collect(),
-        report: [7; 3],
-        scale: [7.0],
     }
 }
 
@@ -105,11 +106,12 @@ pub fn one(t: &mut Tally, rng: &mut Rng, met: &mut Met, b: &Burst) {
     let channel = r.channel();
     let flags = (b.sparse as u64) << 1 | b.spread as u64;
     let args = |i: usize| [b.layout as u64, b.constellation as u64, flags, b.nsym as u64, b.k as u64, i as u64];
-    t.same("accepted", &args(0), c.refine(), 0);
-    t.same("fd", &args(0), c.report[0] as usize, r.est.index.0);
-    t.same("tm", &args(0), c.report[1] as usize, r.est.index.1);
-    t.same("spoilt", &args(0), c.report[2] as usize, r.spoilt());
-    t.same("scale", &args(0), c.scale[0], r.est.mse_scale);
+    let ours = c.refine();
+    t.same("accepted", &args(0), ours.number, 0);
+    t.same("fd", &args(0), ours.fd as usize, r.est.index.0);
+    t.same("tm", &args(0), ours.tm as usize, r.est.index.1);
+    t.same("spoilt", &args(0), ours.spoilt as usize, r.spoilt());
+    t.same("scale", &args(0), ours.scale, r.est.mse_scale);
     t.same("likelihoods", &args(0), r.llrs.len(), b.bits());
     t.same("channel", &args(0), channel.len(), 3 * b.cells());
     r.llrs.iter().enumerate().for_each(|(i, &v)| t.same("likelihood", &args(i), c.answer[i], v));

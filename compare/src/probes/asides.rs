@@ -1,6 +1,13 @@
-//! The entries beside the refinement. Each answers 0 when accepted, else the cause's number.
+//! The entries beside the refinement.
 
-use super::refinements::Call;
+use super::refinements::{Call, Settings};
+
+/// 0 and the values when accepted, else the cause's number and zeros.
+#[repr(C)]
+pub struct Told {
+    pub number: u32,
+    pub values: [f32; 3],
+}
 
 unsafe extern "C" {
     fn probe_fde(
@@ -13,20 +20,10 @@ unsafe extern "C" {
         gain: f32,
         z: *mut f32,
         z_len: usize,
-        out: *mut [f32; 2],
-    ) -> u32;
-    safe fn probe_decide_entry(code: u32, y_re: f32, y_im: f32, h_re: f32, h_im: f32, out: &mut [f32; 2]) -> u32;
+    ) -> Told;
+    safe fn probe_decide_entry(code: u32, y_re: f32, y_im: f32, h_re: f32, h_im: f32) -> Told;
     fn probe_channel_power(
-        layout: u32,
-        constellation: u32,
-        nsym: usize,
-        sparse: bool,
-        spread: bool,
-        gain_code: u32,
-        k: usize,
-        boost: f32,
-        pilot_gain: f32,
-        p_h: f32,
+        settings: Settings,
         grid: *const f32,
         grid_len: usize,
         sigma: *const f32,
@@ -39,19 +36,9 @@ unsafe extern "C" {
         wf_len: usize,
         wu: *mut u32,
         wu_len: usize,
-        out: *mut [f32; 1],
-    ) -> u32;
+    ) -> Told;
     fn probe_single_estimate(
-        layout: u32,
-        constellation: u32,
-        nsym: usize,
-        sparse: bool,
-        spread: bool,
-        gain_code: u32,
-        k: usize,
-        boost: f32,
-        pilot_gain: f32,
-        p_h: f32,
+        settings: Settings,
         grid: *const f32,
         grid_len: usize,
         sigma: *const f32,
@@ -66,8 +53,7 @@ unsafe extern "C" {
         wf_len: usize,
         wu: *mut u32,
         wu_len: usize,
-        out: *mut [f32; 3],
-    ) -> u32;
+    ) -> Told;
 }
 
 /// One spread symbol: cells, channel estimates, variances, gain, and the despread symbols.
@@ -81,47 +67,27 @@ pub struct Symbol {
 }
 
 impl Symbol {
-    /// Mean gain and variance go to `out`.
-    pub fn fde(&mut self, out: &mut [f32; 2]) -> u32 {
+    /// Mean gain and variance.
+    pub fn fde(&mut self) -> Told {
         let Symbol { y, h, v, gain, z } = self;
         // SAFETY: every pointer is good for its length during the call.
         unsafe {
-            probe_fde(
-                y.as_ptr(),
-                y.len(),
-                h.as_ptr(),
-                h.len(),
-                v.as_ptr(),
-                v.len(),
-                *gain,
-                z.as_mut_ptr(),
-                z.len(),
-                out,
-            )
+            probe_fde(y.as_ptr(), y.len(), h.as_ptr(), h.len(), v.as_ptr(), v.len(), *gain, z.as_mut_ptr(), z.len())
         }
     }
 }
 
-/// re and im of y, then of h; `out` is re and im.
-pub fn decide(code: u32, [y_re, y_im, h_re, h_im]: [f32; 4], out: &mut [f32; 2]) -> u32 {
-    probe_decide_entry(code, y_re, y_im, h_re, h_im, out)
+/// re and im of y, then of h, to re and im.
+pub fn decide(code: u32, [y_re, y_im, h_re, h_im]: [f32; 4]) -> Told {
+    probe_decide_entry(code, y_re, y_im, h_re, h_im)
 }
 
 impl Call {
-    pub fn channel_power(&mut self, out: &mut [f32; 1]) -> u32 {
+    pub fn channel_power(&mut self) -> Told {
         // SAFETY: every pointer is good for its length during the call.
         unsafe {
             probe_channel_power(
-                self.layout,
-                self.constellation,
-                self.nsym,
-                self.sparse,
-                self.spread,
-                self.gain_code,
-                self.k,
-                self.boost,
-                self.pilot_gain,
-                self.p_h,
+                self.settings,
                 self.grid.as_ptr(),
                 self.grid.len(),
                 self.sigma.as_ptr(),
@@ -134,26 +100,16 @@ impl Call {
                 self.wf.len(),
                 self.wu.as_mut_ptr(),
                 self.wu.len(),
-                out,
             )
         }
     }
 
-    /// Estimate (re, im) and error go to `out`.
-    pub fn single_estimate(&mut self, carrier: usize, symbol: usize, out: &mut [f32; 3]) -> u32 {
+    /// Estimate (re, im) and error.
+    pub fn single_estimate(&mut self, carrier: usize, symbol: usize) -> Told {
         // SAFETY: every pointer is good for its length during the call.
         unsafe {
             probe_single_estimate(
-                self.layout,
-                self.constellation,
-                self.nsym,
-                self.sparse,
-                self.spread,
-                self.gain_code,
-                self.k,
-                self.boost,
-                self.pilot_gain,
-                self.p_h,
+                self.settings,
                 self.grid.as_ptr(),
                 self.grid.len(),
                 self.sigma.as_ptr(),
@@ -168,7 +124,6 @@ impl Call {
                 self.wf.len(),
                 self.wu.as_mut_ptr(),
                 self.wu.len(),
-                out,
             )
         }
     }

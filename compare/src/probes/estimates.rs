@@ -4,17 +4,8 @@ use super::pilots::{Lists, Settings};
 
 unsafe extern "C" {
     fn probe_estimates(
-        layout: u32,
-        sparse: bool,
-        gain: f32,
-        nsym: usize,
-        boost: f32,
-        p_h: f32,
-        es: f32,
-        k: usize,
-        fd: u32,
-        tm: u32,
-        scale: f32,
+        settings: Settings,
+        asked: Asked,
         grid: *const f32,
         grid_len: usize,
         sigma: *const f32,
@@ -33,13 +24,7 @@ unsafe extern "C" {
         out_len: usize,
     ) -> usize;
     fn probe_models(
-        layout: u32,
-        sparse: bool,
-        gain: f32,
-        nsym: usize,
-        boost: f32,
-        p_h: f32,
-        es: f32,
+        settings: Settings,
         k: usize,
         grid: *const f32,
         grid_len: usize,
@@ -53,18 +38,32 @@ unsafe extern "C" {
         w_len: usize,
         pf: *mut f32,
         pf_len: usize,
-        nine: *mut [f64; 9],
-        index: *mut [u32; 2],
-        scale: *mut [f32; 1],
-    ) -> usize;
+    ) -> Selected;
 }
 
-/// A model by its indices and the factor on its errors.
+/// The pilots an estimate may use, a model by its indices, and the factor on its errors.
+#[repr(C)]
 #[derive(Clone, Copy)]
-pub struct Model {
+pub struct Asked {
+    pub k: usize,
     pub fd: u32,
     pub tm: u32,
     pub scale: f32,
+}
+
+/// How many pilots there are, the nine residuals and the chosen model; all 0 when refused.
+#[repr(C)]
+#[derive(PartialEq)]
+pub struct Selected {
+    pub np: usize,
+    pub residuals: [f64; 9],
+    pub fd: u32,
+    pub tm: u32,
+    pub scale: f32,
+}
+
+impl Selected {
+    pub const NOTHING: Selected = Selected { np: 0, residuals: [0.0; 9], fd: 0, tm: 0, scale: 0.0 };
 }
 
 /// Room for the pilots of a burst.
@@ -80,22 +79,13 @@ impl Work {
 }
 
 /// Three numbers for each cell of `at`; how many pilots there are, 0 when refused.
-pub fn estimates(s: &Settings, l: &Lists, k: usize, m: Model, at: &[u32], work: &mut Work, out: &mut [f32]) -> usize {
+pub fn estimates(s: &Settings, l: &Lists, a: Asked, at: &[u32], work: &mut Work, out: &mut [f32]) -> usize {
     let Work { w, pf } = work;
     // SAFETY: every pointer is good for the length passed with it during the call.
     unsafe {
         probe_estimates(
-            s.layout,
-            s.sparse,
-            s.gain,
-            s.nsym,
-            s.boost,
-            s.p_h,
-            s.es,
-            k,
-            m.fd,
-            m.tm,
-            m.scale,
+            *s,
+            a,
             l.grid.as_ptr(),
             l.grid.len(),
             l.sigma.as_ptr(),
@@ -116,20 +106,12 @@ pub fn estimates(s: &Settings, l: &Lists, k: usize, m: Model, at: &[u32], work: 
     }
 }
 
-/// The nine residuals and the chosen model; how many pilots there are, 0 when refused.
-pub fn models(s: &Settings, l: &Lists, k: usize, work: &mut Work, nine: &mut [f64; 9]) -> (usize, Model) {
+pub fn models(s: &Settings, l: &Lists, k: usize, work: &mut Work) -> Selected {
     let Work { w, pf } = work;
-    let (mut index, mut scale) = ([7; 2], [7.0; 1]);
     // SAFETY: every pointer is good for its length during the call.
-    let np = unsafe {
+    unsafe {
         probe_models(
-            s.layout,
-            s.sparse,
-            s.gain,
-            s.nsym,
-            s.boost,
-            s.p_h,
-            s.es,
+            *s,
             k,
             l.grid.as_ptr(),
             l.grid.len(),
@@ -143,10 +125,6 @@ pub fn models(s: &Settings, l: &Lists, k: usize, work: &mut Work, nine: &mut [f6
             w.len(),
             pf.as_mut_ptr(),
             pf.len(),
-            nine,
-            &mut index,
-            &mut scale,
         )
-    };
-    (np, Model { fd: index[0], tm: index[1], scale: scale[0] })
+    }
 }

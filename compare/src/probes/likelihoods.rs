@@ -1,28 +1,18 @@
 //! A cell's likelihoods and its nearest point, by a table that the caller made.
 
 unsafe extern "C" {
-    fn probe_demap(
-        pts: *const [f32; 128],
-        bps: usize,
-        y_re: f32,
-        y_im: f32,
-        h_re: f32,
-        h_im: f32,
-        mse: f32,
-        sigma2: f32,
-        out: *mut f32,
-        out_len: usize,
-    ) -> u32;
-    fn probe_decide(
-        pts: *const [f32; 128],
-        bps: usize,
-        y_re: f32,
-        y_im: f32,
-        h_re: f32,
-        h_im: f32,
-        out: *mut f32,
-        out_len: usize,
-    ) -> u32;
+    fn probe_demap(pts: *const [f32; 128], bps: usize, r: Received, out: *mut f32, out_len: usize) -> u32;
+    fn probe_decide(pts: *const [f32; 128], bps: usize, r: Received, out: *mut f32, out_len: usize) -> u32;
+}
+
+#[repr(C)]
+struct Received {
+    y_re: f32,
+    y_im: f32,
+    h_re: f32,
+    h_im: f32,
+    mse: f32,
+    sigma2: f32,
 }
 
 /// A cell y = h x + n: re and im of y and h, then the variances of h and n.
@@ -34,16 +24,21 @@ pub struct Cell {
     pub sigma2: f32,
 }
 
+impl Cell {
+    fn received(&self) -> Received {
+        let ([y_re, y_im], [h_re, h_im]) = (self.y, self.h);
+        Received { y_re, y_im, h_re, h_im, mse: self.mse, sigma2: self.sigma2 }
+    }
+}
+
 /// 1 when done, 0 when refused.
 pub fn demap(pts: &[f32; 128], bps: usize, c: &Cell, out: &mut [f32]) -> u32 {
-    let ([y_re, y_im], [h_re, h_im]) = (c.y, c.h);
     // SAFETY: every pointer is good for its length during the call.
-    unsafe { probe_demap(pts, bps, y_re, y_im, h_re, h_im, c.mse, c.sigma2, out.as_mut_ptr(), out.len()) }
+    unsafe { probe_demap(pts, bps, c.received(), out.as_mut_ptr(), out.len()) }
 }
 
 /// 1 when done, 0 when refused.
 pub fn decide(pts: &[f32; 128], bps: usize, c: &Cell, out: &mut [f32]) -> u32 {
-    let ([y_re, y_im], [h_re, h_im]) = (c.y, c.h);
     // SAFETY: every pointer is good for its length during the call.
-    unsafe { probe_decide(pts, bps, y_re, y_im, h_re, h_im, out.as_mut_ptr(), out.len()) }
+    unsafe { probe_decide(pts, bps, c.received(), out.as_mut_ptr(), out.len()) }
 }

@@ -1,6 +1,8 @@
 //! The pilots of a burst.
 
 /// What stands in front of the lists.
+#[repr(C)]
+#[derive(Clone, Copy)]
 pub struct Settings {
     pub layout: u32,
     pub sparse: bool,
@@ -21,13 +23,7 @@ pub struct Lists<'a> {
 
 unsafe extern "C" {
     fn probe_load(
-        layout: u32,
-        sparse: bool,
-        gain: f32,
-        nsym: usize,
-        boost: f32,
-        p_h: f32,
-        es: f32,
+        settings: Settings,
         grid: *const f32,
         grid_len: usize,
         sigma: *const f32,
@@ -48,13 +44,7 @@ pub fn load(s: &Settings, l: &Lists, w: &mut [u32], pf: &mut [f32]) -> usize {
     // SAFETY: every pointer is good for the length passed with it during the call.
     unsafe {
         probe_load(
-            s.layout,
-            s.sparse,
-            s.gain,
-            s.nsym,
-            s.boost,
-            s.p_h,
-            s.es,
+            *s,
             l.grid.as_ptr(),
             l.grid.len(),
             l.sigma.as_ptr(),

@@ -2,16 +2,7 @@
 
 unsafe extern "C" {
     fn probe_refine(
-        layout: u32,
-        constellation: u32,
-        nsym: usize,
-        sparse: bool,
-        spread: bool,
-        gain_code: u32,
-        k: usize,
-        boost: f32,
-        pilot_gain: f32,
-        p_h: f32,
+        settings: Settings,
         grid: *const f32,
         grid_len: usize,
         sigma: *const f32,
@@ -28,14 +19,13 @@ unsafe extern "C" {
         wf_len: usize,
         wu: *mut u32,
         wu_len: usize,
-        report: *mut [u32; 3],
-        scale: *mut [f32; 1],
-    ) -> u32;
+    ) -> Report;
 }
 
-/// What a call is handed, and what it writes.
-#[derive(Clone)]
-pub struct Call {
+/// What a burst's header and the station say of it.
+#[repr(C)]
+#[derive(Clone, Copy)]
+pub struct Settings {
     pub layout: u32,
     pub constellation: u32,
     pub nsym: usize,
@@ -46,6 +36,22 @@ pub struct Call {
     pub boost: f32,
     pub pilot_gain: f32,
     pub p_h: f32,
+}
+
+/// 0 when accepted, else the cause's number and zeros.
+#[repr(C)]
+pub struct Report {
+    pub number: u32,
+    pub fd: u32,
+    pub tm: u32,
+    pub spoilt: u32,
+    pub scale: f32,
+}
+
+/// What a call is handed, and what it writes.
+#[derive(Clone)]
+pub struct Call {
+    pub settings: Settings,
     pub grid: Vec<f32>,
     pub sigma: Vec<f32>,
     pub cells: Vec<f32>,
@@ -54,27 +60,14 @@ pub struct Call {
     pub channel: Vec<f32>,
     pub wf: Vec<f32>,
     pub wu: Vec<u32>,
-    /// fd, tm, spoilt.
-    pub report: [u32; 3],
-    pub scale: [f32; 1],
 }
 
 impl Call {
-    /// 0 when accepted, else the cause's number.
-    pub fn refine(&mut self) -> u32 {
+    pub fn refine(&mut self) -> Report {
         // SAFETY: every pointer is good for its length during the call.
         unsafe {
             probe_refine(
-                self.layout,
-                self.constellation,
-                self.nsym,
-                self.sparse,
-                self.spread,
-                self.gain_code,
-                self.k,
-                self.boost,
-                self.pilot_gain,
-                self.p_h,
+                self.settings,
                 self.grid.as_ptr(),
                 self.grid.len(),
                 self.sigma.as_ptr(),
@@ -91,8 +84,6 @@ impl Call {
                 self.wf.len(),
                 self.wu.as_mut_ptr(),
                 self.wu.len(),
-                &mut self.report,
-                &mut self.scale,
             )
         }
     }

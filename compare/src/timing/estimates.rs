@@ -7,7 +7,7 @@ use super::beside::beside;
 use crate::groups::bursts::Asked;
 use crate::oracle::burst::Burst;
 use crate::oracle::phy::est::Estimator;
-use crate::probes::estimates::{Model, Work, estimates};
+use crate::probes::estimates::{self as probes, Work};
 
 const CALLS: u64 = 1_000;
 const NSYM: u16 = 60;
@@ -54,11 +54,11 @@ fn one(b: &Burst, c: usize) {
     let (asked, g, (nc, ng)) = (Asked::new(b), middle(b), (b.shape().nc, b.symbols()));
     let mut est = b.refine().est;
     let exclude = own(b, &est, c);
-    let model = Model { fd: est.index.0 as u32, tm: est.index.1 as u32, scale: est.mse_scale };
+    let model = probes::Asked { k: b.k, fd: est.index.0 as u32, tm: est.index.1 as u32, scale: est.mse_scale };
     let (mut work, mut out) = (Work::new(nc, ng), vec![0.0; 3 * CALLS as usize]);
     let at = vec![(g * nc + c) as u32; CALLS as usize];
     let (lists, name) = (asked.lists(b), format!("estimate, {} candidates", count(b, &est, c)));
-    let mut ask = |at: &[u32], work: &mut Work| estimates(&asked.settings, &lists, b.k, model, at, work, &mut out);
+    let mut ask = |at: &[u32], work: &mut Work| probes::estimates(&asked.settings, &lists, model, at, work, &mut out);
     let before = super::least(1, || ask(&[], &mut work)) * 1e-9;
     beside(
         &name,

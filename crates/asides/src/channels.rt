@@ -1,91 +1,66 @@
 // phy: channel_power and the single estimate.
 ghost use mathlib.Core.Path.{_≡_};
 ghost use Rattle.refine.specs.Refine.{burst};
-ghost use Rattle.phy.specs.Channels.{powerNumber, singleNumber};
-ghost use Rattle.asides.specs.Told.{settingsOf, powerOut, singleOut, ProbedPower, ProbedSingle};
+ghost use Rattle.asides.specs.Told.{powerTold, singleTold, ProbedPower, ProbedSingle};
+use crate::told::Told;
 use phy::Power;
 use phy::Single;
 use phy::cause_number;
 use refine::Settings;
 
-fn power_told(r: Power, out: &mut [f32; 1]) -> u32
-    ensures { λ n. ⌜ (n ≡ powerNumber r) × (now (out .exit) ≡ powerOut r (now (out .entry))) ⌝ }
+fn power_told(r: Power) -> Told
+    ensures { λ t. ⌜ t ≡ powerTold r ⌝ }
 {
     match r {
-        Power::Refused(cause) => cause_number(cause),
-        Power::Accepted(x) => {
-            *out = [x];
-            0
-        }
+        Power::Refused(cause) => Told {
+            number: cause_number(cause),
+            values: [0.0; 3],
+        },
+        Power::Accepted(x) => Told {
+            number: 0,
+            values: [x, 0.0, 0.0],
+        },
     }
 }
 
-fn single_told(r: Single, out: &mut [f32; 3]) -> u32
-    ensures { λ n. ⌜ (n ≡ singleNumber r) × (now (out .exit) ≡ singleOut r (now (out .entry))) ⌝ }
+// Estimate (re, im) and error.
+fn single_told(r: Single) -> Told
+    ensures { λ t. ⌜ t ≡ singleTold r ⌝ }
 {
     match r {
-        Single::Refused(cause) => cause_number(cause),
-        Single::Beyond => 11,
-        Single::Accepted(e) => {
-            let h = e.h;
-            *out = [h.re, h.im, e.mse];
-            0
-        }
+        Single::Refused(cause) => Told {
+            number: cause_number(cause),
+            values: [0.0; 3],
+        },
+        Single::Beyond => Told {
+            number: 11,
+            values: [0.0; 3],
+        },
+        Single::Accepted(e) => Told {
+            number: 0,
+            values: [e.h.re, e.h.im, e.mse],
+        },
     }
 }
 
 #[no_mangle]
 pub extern "C" fn probe_channel_power(
-    layout: u32,
-    constellation: u32,
-    nsym: usize,
-    sparse: bool,
-    spread: bool,
-    gain_code: u32,
-    k: usize,
-    boost: f32,
-    pilot_gain: f32,
-    p_h: f32,
+    s: Settings,
     grid: &[f32],
     sigma: &[f32],
     cells: &[f32],
     prior: &[f32],
     wf: &mut [f32],
     wu: &mut [u32],
-    out: &mut [f32; 1],
-) -> u32
-    ensures { λ n. ⌜ ProbedPower (burst (settingsOf layout constellation nsym sparse spread «gain_code» k boost «pilot_gain» «p_h») (now (grid .entry)) (now (sigma .entry)) (now (cells .entry))) (now (prior .entry))
-        (now (wf .entry)) (now (wf .exit)) (now (wu .entry)) (now (wu .exit)) (now (out .entry)) (now (out .exit)) n ⌝ }
+) -> Told
+    ensures { λ t. ⌜ ProbedPower (burst s (now (grid .entry)) (now (sigma .entry)) (now (cells .entry))) (now (prior .entry)) (now (wf .entry)) (now (wf .exit)) (now (wu .entry)) (now (wu .exit)) t ⌝ }
 {
-    let s = Settings {
-        layout,
-        constellation,
-        nsym,
-        sparse,
-        spread,
-        gain_code,
-        k,
-        boost,
-        pilot_gain,
-        p_h,
-    };
-    let r = phy::channel_power(s, grid, sigma, cells, prior, wf, wu);
-    power_told(r, out)
+    power_told(phy::channel_power(s, grid, sigma, cells, prior, wf, wu))
 }
 
-// Estimate (re, im) and error go to out.
 #[no_mangle]
 pub extern "C" fn probe_single_estimate(
-    layout: u32,
-    constellation: u32,
-    nsym: usize,
-    sparse: bool,
-    spread: bool,
-    gain_code: u32,
-    k: usize,
-    boost: f32,
-    pilot_gain: f32,
-    p_h: f32,
+    s: Settings,
     grid: &[f32],
     sigma: &[f32],
     cells: &[f32],
@@ -94,23 +69,8 @@ pub extern "C" fn probe_single_estimate(
     symbol: usize,
     wf: &mut [f32],
     wu: &mut [u32],
-    out: &mut [f32; 3],
-) -> u32
-    ensures { λ n. ⌜ ProbedSingle (burst (settingsOf layout constellation nsym sparse spread «gain_code» k boost «pilot_gain» «p_h») (now (grid .entry)) (now (sigma .entry)) (now (cells .entry))) (now (prior .entry)) carrier symbol
-        (now (wf .entry)) (now (wf .exit)) (now (wu .entry)) (now (wu .exit)) (now (out .entry)) (now (out .exit)) n ⌝ }
+) -> Told
+    ensures { λ t. ⌜ ProbedSingle (burst s (now (grid .entry)) (now (sigma .entry)) (now (cells .entry))) (now (prior .entry)) carrier symbol (now (wf .entry)) (now (wf .exit)) (now (wu .entry)) (now (wu .exit)) t ⌝ }
 {
-    let s = Settings {
-        layout,
-        constellation,
-        nsym,
-        sparse,
-        spread,
-        gain_code,
-        k,
-        boost,
-        pilot_gain,
-        p_h,
-    };
-    let r = phy::estimate(s, grid, sigma, cells, prior, carrier, symbol, wf, wu);
-    single_told(r, out)
+    single_told(phy::estimate(s, grid, sigma, cells, prior, carrier, symbol, wf, wu))
 }

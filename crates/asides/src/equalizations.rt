@@ -1,33 +1,32 @@
-// beside: fde. The mean gain and the variance go to out.
+// beside: fde.
 ghost use mathlib.Core.Path.{_≡_};
-ghost use Rattle.beside.specs.Equalizations.{numberOf};
-ghost use Rattle.asides.specs.Told.{equalizationOut, ProbedEqualization};
+ghost use Rattle.asides.specs.Told.{equalizationTold, ProbedEqualization};
+use crate::told::Told;
 use beside::Equalization;
 
-fn told(r: Equalization, out: &mut [f32; 2]) -> u32
-    ensures { λ n. ⌜ (n ≡ numberOf r) × (now (out .exit) ≡ equalizationOut r (now (out .entry))) ⌝ }
+// Mean gain and variance.
+fn equalization_told(r: Equalization) -> Told
+    ensures { λ t. ⌜ t ≡ equalizationTold r ⌝ }
 {
     match r {
-        Equalization::Lengths => 5,
-        Equalization::Numbers => 7,
-        Equalization::Accepted(e) => {
-            *out = [e.mu, e.var];
-            0
-        }
+        Equalization::Lengths => Told {
+            number: 5,
+            values: [0.0; 3],
+        },
+        Equalization::Numbers => Told {
+            number: 7,
+            values: [0.0; 3],
+        },
+        Equalization::Accepted(e) => Told {
+            number: 0,
+            values: [e.mu, e.var, 0.0],
+        },
     }
 }
 
 #[no_mangle]
-pub extern "C" fn probe_fde(
-    y: &[f32],
-    h: &[f32],
-    v: &[f32],
-    gain: f32,
-    z: &mut [f32],
-    out: &mut [f32; 2],
-) -> u32
-    ensures { λ n. ⌜ ProbedEqualization (now (y .entry)) (now (h .entry)) (now (v .entry)) gain (now (z .entry)) (now (z .exit)) (now (out .entry)) (now (out .exit)) n ⌝ }
+pub extern "C" fn probe_fde(y: &[f32], h: &[f32], v: &[f32], gain: f32, z: &mut [f32]) -> Told
+    ensures { λ t. ⌜ ProbedEqualization (now (y .entry)) (now (h .entry)) (now (v .entry)) gain (now (z .entry)) (now (z .exit)) t ⌝ }
 {
-    let r = beside::fde(y, h, v, gain, z);
-    told(r, out)
+    equalization_told(beside::fde(y, h, v, gain, z))
 }

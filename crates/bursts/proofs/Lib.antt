@@ -1,5 +1,3 @@
-pub mod Worked
 pub mod Rests
-pub mod OwnPilot
-pub mod Answers
-pub mod Reporting
+pub mod AtCells
+pub mod Loaded

@@ -1,4 +1,3 @@
-pub mod Pilots
+pub mod Work
 pub mod Estimating
 pub mod Modelling
-pub mod Refinements

@@ -1,31 +1,33 @@
 -- What `probe_models` answers: the nine residuals, and the model chosen by them.
 use Prim.Native.Nat.{ℕ}
 use mathlib.Core.Path.{_≡_}
-use mathlib.Core.Bool.{Bool, cond}
+use mathlib.Core.Bool.{cond}
 use mathlib.Core.List.{List, [], _∷_}
 use lib.Dec.{eqb}
 use lib.Ieee.{Float}
-use Rattle.layout.specs.declared.layouts.Layout.{Layout}
+use Rattle.ieee.specs.Num.{zero64, zero32}
 use Rattle.load.specs.declared.pilot.Pilot.{Pilot}
-use Rattle.load.specs.declared.found.Source.{Source}
-use Rattle.load.specs.Find.{foundAt}
-use Rattle.est.specs.Estimate.{heldK}
 use Rattle.model.specs.Select.{residuals, selectModel}
 use Rattle.model.specs.declared.trial.Setting.{Setting}
+use Rattle.probes.specs.declared.pilots.Settings.{Settings}
+use Rattle.probes.specs.Loading.{sourceFor, Loading}
 use Rattle.bursts.specs.declared.models.Selected.{Selected}
-use Rattle.probes.specs.Loading.{Loading}
-use Rattle.bursts.specs.Pilots.{pilotsIn, startsIn}
+use Rattle.bursts.specs.Work.{settingFor, pilotsIn, startsIn}
 
-abbrev pub selectedOf : Setting → List Pilot → List ℕ → Selected
-selectedOf s ps start = record { residuals = residuals s ps start; model = selectModel s ps start }
+abbrev pub nothing : Selected
+nothing = record { np = 0; residuals = zero64 ∷ zero64 ∷ zero64 ∷ zero64 ∷ zero64 ∷ zero64 ∷ zero64 ∷ zero64 ∷ zero64 ∷ []; fd = 0; tm = 0; scale = zero32 }
 
--- with k held
-abbrev pub settingOf : Layout → Bool → ℕ → Source → Setting
-settingOf l sparse k s = record { l = l; sparse = sparse; ng = s .ng; k = heldK k; «p_h» = s .«p_h» }
+abbrev pub selectedOf : ℕ → Setting → List Pilot → List ℕ → Selected
+selectedOf np s ps start =
+    record {
+      np = np;
+      residuals = residuals s ps start;
+      fd = selectModel s ps start .fd;
+      tm = selectModel s ps start .tm;
+      scale = selectModel s ps start .scale;
+    }
 
--- r is what `probe_load` answers. Where it loads nothing, the three lists are as they were
-pub record Modelling (t : Setting) (nsym : ℕ) (s : Source) (grid sigma cells expected : List Float) (w₀ : List ℕ) (pf₀ rs₀ : List Float) (index₀ : List ℕ) (scale₀ : List Float) (w : List ℕ) (pf rs : List Float) (index : List ℕ) (scale : List Float) (r : ℕ) : Type 0 where
-  pub loading : Loading nsym s grid sigma cells expected w₀ pf₀ w pf r
-  pub nine : rs ≡ cond (eqb r 0) rs₀ (residuals t (pilotsIn s grid (foundAt s sigma cells expected)) (startsIn s grid (foundAt s sigma cells expected)))
-  pub chosen : index ≡ cond (eqb r 0) index₀ (selectModel t (pilotsIn s grid (foundAt s sigma cells expected)) (startsIn s grid (foundAt s sigma cells expected)) .fd ∷ selectModel t (pilotsIn s grid (foundAt s sigma cells expected)) (startsIn s grid (foundAt s sigma cells expected)) .tm ∷ [])
-  pub scaled : scale ≡ cond (eqb r 0) scale₀ (selectModel t (pilotsIn s grid (foundAt s sigma cells expected)) (startsIn s grid (foundAt s sigma cells expected)) .scale ∷ [])
+-- np is what `probe_load` answers
+pub record Modelling (t : Settings) (k : ℕ) (grid sigma cells expected : List Float) (w₀ : List ℕ) (pf₀ : List Float) (w : List ℕ) (pf : List Float) (r : Selected) : Type 0 where
+  pub loading : Loading t grid sigma cells expected w₀ pf₀ w pf (r .np)
+  pub selected : r ≡ cond (eqb (r .np) 0) nothing (selectedOf (r .np) (settingFor t k) (pilotsIn (sourceFor t) grid sigma cells expected) (startsIn (sourceFor t) grid sigma cells expected))

@@ -2,40 +2,58 @@
 ghost use mathlib.Core.Path.{_≡_};
 ghost use mathlib.Core.List.{_++_};
 ghost use Prim.Native.Nat.{_+_, _*_, _<_, _≤_};
-ghost use lib.ListN.{length, take, drop};
-ghost use Rattle.layout.specs.Layouts.{layoutOf};
-ghost use Rattle.load.specs.Fit.{sourceOf};
-ghost use Rattle.load.specs.Pilots.{pilots, Loaded};
-ghost use Rattle.est.specs.Model.{Modelled};
-ghost use Rattle.model.specs.Score.{Windowed};
-ghost use Rattle.bursts.specs.Estimating.{ownOf, estimateAt, estimatesAt, estimatesBy, Estimating};
+ghost use lib.ListN.{length, drop};
+ghost use Rattle.load.specs.Pilots.{pilots};
+ghost use Rattle.model.specs.Values.{FitModels};
+ghost use Rattle.model.specs.Score.{Fit};
+ghost use Rattle.bursts.specs.Work.{pilotsAt, startsAt, InWork};
+ghost use Rattle.bursts.specs.Estimating.{fittedOf, carrierTable, symbolTable, estimateAt, estimatesAt, estimatesBy, putBy, Ready, Estimating};
+use crate::work::setting_of;
+use crate::work::starts_in;
+use crate::work::symbols_in;
 use dsp::Complex;
 use est::Estimate;
-use est::Numerology;
 use est::Scales;
 use judge::pilot_index;
+use model::Setting;
 use near::Query;
 use near::Window;
+use probes::Settings;
 use probes::probe_load;
 use probes::put3;
 
+// Pilots an estimate may use, the model by its indices, and the factor on its errors.
+#[repr(C)]
+pub struct Asked {
+    pub k: usize,
+    pub fd: u32,
+    pub tm: u32,
+    pub scale: f32,
+}
+
+// The model as the estimates use it: the window, the units of distance, the channel's mean power, and the factor on the errors.
+pub struct Fitted {
+    pub w: Window,
+    pub u: Scales,
+    pub p_h: f32,
+    pub scale: f32,
+}
+
 // At cell j of the grid, in order of symbol, then carrier.
 fn estimate_at(
+    f: Fitted,
     pc: &[u32],
     pg: &[u32],
     pf: &[f32],
     start: &[u32],
     rf: &[f64],
     rt: &[f64],
-    u: Scales,
-    w: Window,
-    p_h: f32,
-    scale: f32,
     j: usize,
 ) -> Estimate
-    requires { ⌜ Windowed w (now pc) (now pg) (now pf) (now start) × (0 < w .nc) × (2 * w .nc < length (now rf)) × (4 * w .gw < length (now rt)) ⌝ }
-    ensures { λ r. ⌜ r ≡ estimateAt w «p_h» scale (pilots (now (pc .entry)) (now (pg .entry)) (now (pf .entry)) (length (now (pc .entry)))) (now (start .entry)) (ownOf (pilots (now (pc .entry)) (now (pg .entry)) (now (pf .entry)) (length (now (pc .entry)))) (now (start .entry))) u (now (rf .entry)) (now (rt .entry)) j ⌝ }
+    requires { ⌜ Ready f (now pc) (now pg) (now pf) (now start) (now rf) (now rt) ⌝ }
+    ensures { λ r. ⌜ r ≡ estimateAt f (pilots (now (pc .entry)) (now (pg .entry)) (now (pf .entry)) (length (now (pc .entry)))) (now (start .entry)) (now (rf .entry)) (now (rt .entry)) j ⌝ }
 {
+    let w = f.w;
     let c = j % w.nc;
     let g = j / w.nc;
     if g >= w.ng {
@@ -45,173 +63,108 @@ fn estimate_at(
         };
     }
     let x = pilot_index(pc, start, c, g);
+    let u = f.u;
     let q = Query {
         c,
         g,
         lc: u.lc,
         lg: u.lg,
     };
-    est::estimate_without(pc, pg, pf, start, rf, rt, q, w, p_h, scale, x)
+    est::estimate_without(pc, pg, pf, start, rf, rt, q, w, f.p_h, f.scale, x)
 }
 
 fn estimates_at(
+    f: Fitted,
     pc: &[u32],
     pg: &[u32],
     pf: &[f32],
     start: &[u32],
     rf: &[f64],
     rt: &[f64],
-    u: Scales,
-    w: Window,
-    p_h: f32,
-    scale: f32,
     at: &[u32],
     out: &mut [f32],
 )
-    requires { ⌜ Windowed w (now pc) (now pg) (now pf) (now start) × (0 < w .nc) × (2 * w .nc < length (now rf)) × (4 * w .gw < length (now rt)) ⌝ }
-    requires { ⌜ length (now at) * 3 ≤ length (now out) ⌝ }
-    ensures { λ _. ⌜ now (out .exit) ≡ estimatesAt w «p_h» scale (pilots (now (pc .entry)) (now (pg .entry)) (now (pf .entry)) (length (now (pc .entry)))) (now (start .entry)) (ownOf (pilots (now (pc .entry)) (now (pg .entry)) (now (pf .entry)) (length (now (pc .entry)))) (now (start .entry))) u (now (rf .entry)) (now (rt .entry)) (now (at .entry)) ++ drop (length (now (at .entry)) * 3) (now (out .entry)) ⌝ }
+    requires { ⌜ Ready f (now pc) (now pg) (now pf) (now start) (now rf) (now rt) × (length (now at) * 3 ≤ length (now out)) ⌝ }
+    ensures { λ _. ⌜ now (out .exit) ≡ estimatesAt f (pilots (now (pc .entry)) (now (pg .entry)) (now (pf .entry)) (length (now (pc .entry)))) (now (start .entry)) (now (rf .entry)) (now (rt .entry)) (now (at .entry)) ++ drop (length (now (at .entry)) * 3) (now (out .entry)) ⌝ }
 {
     let n = at.len();
     for i in 0..n {
-        let e = estimate_at(pc, pg, pf, start, rf, rt, u, w, p_h, scale, at[i] as usize);
+        let e = estimate_at(f, pc, pg, pf, start, rf, rt, at[i] as usize);
         let from = i * 3;
         put3(&mut out[from..], e.h, e.mse);
     }
 }
 
-// Doppler fd and delay span tm.
-fn with_tables(
-    pc: &[u32],
-    pg: &[u32],
-    pf: &[f32],
-    start: &[u32],
-    l: Numerology,
-    fd: f64,
-    tm: f64,
-    w: Window,
-    p_h: f32,
-    scale: f32,
-    at: &[u32],
-    rf: &mut [f64],
-    rt: &mut [f64],
-    out: &mut [f32],
-)
-    requires { ⌜ Windowed w (now pc) (now pg) (now pf) (now start) × Modelled l fd tm × (w .nc ≡ l .nc) × (w .gw ≡ l .gw) ⌝ }
-    requires { ⌜ (0 < w .nc) × (length (now rf) ≡ 2 * l .nc + 1) × (length (now rt) ≡ 4 * l .gw + 1) × (length (now at) * 3 ≤ length (now out)) ⌝ }
-    ensures { λ _. ⌜ now (out .exit) ≡ estimatesBy w «p_h» scale (pilots (now (pc .entry)) (now (pg .entry)) (now (pf .entry)) (length (now (pc .entry)))) (now (start .entry)) (ownOf (pilots (now (pc .entry)) (now (pg .entry)) (now (pf .entry)) (length (now (pc .entry)))) (now (start .entry))) l fd tm (now (at .entry)) ++ drop (length (now (at .entry)) * 3) (now (out .entry)) ⌝ }
+// The model's correlations go to rf and rt.
+fn fit(s: Setting, a: Asked, rf: &mut [f64], rt: &mut [f64]) -> Fitted
+    requires { ⌜ FitModels (s .l) × (length (now rf) ≡ 2 * s .l .nc + 1) × (length (now rt) ≡ 4 * s .l .gw + 1) ⌝ }
+    ensures { λ r. ⌜ (r ≡ fittedOf s a) × (now (rf .exit) ≡ carrierTable s a) × (now (rt .exit) ≡ symbolTable s a) ⌝ }
 {
-    let u = est::set_model(l, fd, tm, rf, rt);
-    estimates_at(pc, pg, pf, start, rf, rt, u, w, p_h, scale, at, out);
+    let fd = model::fd_value(s.l, s.sparse, a.fd);
+    let tm = model::tm_value(s.l, a.tm);
+    let u = est::set_model(model::numerology(s.l), fd, tm, rf, rt);
+    Fitted {
+        w: model::window(s.l, s.ng, s.k),
+        u,
+        p_h: s.p_h,
+        scale: a.scale,
+    }
 }
 
 // Room for the most carriers, 109, and the most symbols, 12 to each side.
-fn carrier_table() -> [f64; 219]
+fn carrier_room() -> [f64; 219]
     ensures { λ r. ⌜ 219 ≡ length r ⌝ }
 {
     [0.0; 219]
 }
 
-fn symbol_table() -> [f64; 49]
+fn symbol_room() -> [f64; 49]
     ensures { λ r. ⌜ 49 ≡ length r ⌝ }
 {
     [0.0; 49]
 }
 
-fn with_model(
+// Under the model that is asked for.
+fn estimates_by(
+    s: Setting,
+    a: Asked,
     pc: &[u32],
     pg: &[u32],
     pf: &[f32],
     start: &[u32],
-    l: Numerology,
-    fd: f64,
-    tm: f64,
-    w: Window,
-    p_h: f32,
-    scale: f32,
     at: &[u32],
     out: &mut [f32],
 )
-    requires { ⌜ Windowed w (now pc) (now pg) (now pf) (now start) × Modelled l fd tm × (w .nc ≡ l .nc) × (w .gw ≡ l .gw) ⌝ }
-    requires { ⌜ (0 < w .nc) × (length (now at) * 3 ≤ length (now out)) ⌝ }
-    ensures { λ _. ⌜ now (out .exit) ≡ estimatesBy w «p_h» scale (pilots (now (pc .entry)) (now (pg .entry)) (now (pf .entry)) (length (now (pc .entry)))) (now (start .entry)) (ownOf (pilots (now (pc .entry)) (now (pg .entry)) (now (pf .entry)) (length (now (pc .entry)))) (now (start .entry))) l fd tm (now (at .entry)) ++ drop (length (now (at .entry)) * 3) (now (out .entry)) ⌝ }
+    requires { ⌜ Fit s (now pc) (now pg) (now pf) (now start) × FitModels (s .l) × (0 < s .l .nc) × (s .l .gw ≤ 12) × (length (now at) * 3 ≤ length (now out)) ⌝ }
+    ensures { λ _. ⌜ now (out .exit) ≡ estimatesBy s a (pilots (now (pc .entry)) (now (pg .entry)) (now (pf .entry)) (length (now (pc .entry)))) (now (start .entry)) (now (at .entry)) ++ drop (length (now (at .entry)) * 3) (now (out .entry)) ⌝ }
 {
-    let a = 2 * l.nc + 1;
-    let b = 4 * l.gw + 1;
-    let mut rf = carrier_table();
-    let mut rt = symbol_table();
-    with_tables(
-        pc,
-        pg,
-        pf,
-        start,
-        l,
-        fd,
-        tm,
-        w,
-        p_h,
-        scale,
-        at,
-        &mut rf[..a],
-        &mut rt[..b],
-        out,
-    );
+    let l = s.l;
+    let m = 2 * l.nc + 1;
+    let n = 4 * l.gw + 1;
+    let mut rf = carrier_room();
+    let mut rt = symbol_room();
+    let f = fit(s, a, &mut rf[..m], &mut rt[..n]);
+    estimates_at(f, pc, pg, pf, start, &rf[..m], &rt[..n], at, out);
 }
 
-// The same with the pilots as they stand in the work lists, np of them in room for n.
-fn from_work(
-    w: &[u32],
-    pf: &[f32],
-    n: usize,
-    np: usize,
-    l: Numerology,
-    fd: f64,
-    tm: f64,
-    v: Window,
-    p_h: f32,
-    scale: f32,
-    at: &[u32],
-    out: &mut [f32],
-)
-    requires { ⌜ Loaded (take np (now w)) (take np (drop n (now w))) (take (3 * np) (now pf)) (take (v .ng + 1) (drop (2 * n) (now w))) (v .nc) (v .ng) np ⌝ }
-    requires { ⌜ Modelled l fd tm × (v .nc ≡ l .nc) × (v .gw ≡ l .gw) × (1 ≤ v .k) × (v .k ≤ 40) ⌝ }
-    requires { ⌜ (0 < v .nc) × (length (now at) * 3 ≤ length (now out)) × (n ≤ 118156) × (np ≤ n) × (2 * n + v .ng + 1 ≤ length (now w)) × (3 * n ≤ length (now pf)) ⌝ }
-    ensures { λ _. ⌜ now (out .exit) ≡ estimatesBy v «p_h» scale (pilots (take np (now (w .entry))) (take np (drop n (now (w .entry)))) (take (3 * np) (now (pf .entry))) np) (take (v .ng + 1) (drop (2 * n) (now (w .entry)))) (ownOf (pilots (take np (now (w .entry))) (take np (drop n (now (w .entry)))) (take (3 * np) (now (pf .entry))) np) (take (v .ng + 1) (drop (2 * n) (now (w .entry))))) l fd tm (now (at .entry)) ++ drop (length (now (at .entry)) * 3) (now (out .entry)) ⌝ }
+// From the np pilots of the work lists.
+fn estimates_in(s: Setting, a: Asked, np: usize, w: &[u32], pf: &[f32], at: &[u32], out: &mut [f32])
+    requires { ⌜ InWork s np (now w) (now pf) ⌝ }
+    ensures { λ _. ⌜ now (out .exit) ≡ putBy (now (at .entry)) (estimatesBy s a (pilotsAt s np (now (w .entry)) (now (pf .entry))) (startsAt s (now (w .entry))) (now (at .entry))) (now (out .entry)) ⌝ }
 {
-    let m = 2 * n;
-    let numbers = 3 * np;
-    let ends = v.ng + 1;
-    let symbols = &w[n..];
-    let starts = &w[m..];
-    with_model(
-        &w[..np],
-        &symbols[..np],
-        &pf[..numbers],
-        &starts[..ends],
-        l,
-        fd,
-        tm,
-        v,
-        p_h,
-        scale,
-        at,
-        out,
-    );
+    if out.len() / 3 < at.len() {
+        return;
+    }
+    let pg = symbols_in(s, np, w);
+    let start = starts_in(s, np, w);
+    let n = 3 * np;
+    estimates_by(s, a, &w[..np], pg, &pf[..n], start, at, out);
 }
 
 #[no_mangle]
 pub extern "C" fn probe_estimates(
-    number: u32,
-    sparse: bool,
-    gain: f32,
-    nsym: usize,
-    boost: f32,
-    p_h: f32,
-    es: f32,
-    k: usize,
-    fd: u32,
-    tm: u32,
-    scale: f32,
+    s: Settings,
+    a: Asked,
     grid: &[f32],
     sigma: &[f32],
     cells: &[f32],
@@ -221,46 +174,12 @@ pub extern "C" fn probe_estimates(
     pf: &mut [f32],
     out: &mut [f32],
 ) -> usize
-    ensures { λ r. ⌜ Estimating (record { l = layoutOf number; sparse = sparse; k = k; fd = fd; tm = tm; scale = scale; at = now (at .entry) }) nsym (sourceOf (layoutOf number) sparse gain nsym boost «p_h» es) (now (grid .entry)) (now (sigma .entry)) (now (cells .entry)) (now (expected .entry)) (now (w .entry)) (now (pf .entry)) (now (out .entry)) (now (w .exit)) (now (pf .exit)) (now (out .exit)) r ⌝ }
+    ensures { λ r. ⌜ Estimating s a (now (at .entry)) (now (grid .entry)) (now (sigma .entry)) (now (cells .entry)) (now (expected .entry)) (now (w .entry)) (now (pf .entry)) (now (out .entry)) (now (w .exit)) (now (pf .exit)) (now (out .exit)) r ⌝ }
 {
-    let np = probe_load(
-        number,
-        sparse,
-        gain,
-        nsym,
-        boost,
-        p_h,
-        es,
-        grid,
-        sigma,
-        cells,
-        expected,
-        w,
-        pf,
-    );
+    let np = probe_load(s, grid, sigma, cells, expected, w, pf);
     if np == 0 {
         return 0;
     }
-    if out.len() / 3 < at.len() {
-        return np;
-    }
-    let l = layout::layout(number);
-    let ng = l.ng(nsym);
-    let n = ng * l.nc;
-    let v = model::window(l, ng, est::held_k(k));
-    from_work(
-        w,
-        pf,
-        n,
-        np,
-        model::numerology(l),
-        model::fd_value(l, sparse, fd),
-        model::tm_value(l, tm),
-        v,
-        p_h,
-        scale,
-        at,
-        out,
-    );
+    estimates_in(setting_of(s, a.k), a, np, w, pf, at, out);
     np
 }

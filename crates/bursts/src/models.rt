@@ -1,21 +1,28 @@
 // model: the nine residuals and the model chosen by them, from a burst that is loaded first.
 ghost use mathlib.Core.Path.{_≡_};
-ghost use Prim.Native.Nat.{_+_, _*_, _<_, _≤_};
-ghost use lib.ListN.{length, take, drop};
-ghost use Rattle.layout.specs.Layouts.{layoutOf};
-ghost use Rattle.load.specs.Fit.{sourceOf};
-ghost use Rattle.load.specs.Pilots.{pilots, Loaded};
+ghost use Prim.Native.Nat.{_<_};
+ghost use lib.ListN.{length};
+ghost use Rattle.load.specs.Pilots.{pilots};
 ghost use Rattle.model.specs.Values.{FitModels};
 ghost use Rattle.model.specs.Score.{Fit};
 ghost use Rattle.model.specs.Select.{tried, residuals};
-ghost use Rattle.bursts.specs.Modelling.{selectedOf, settingOf, Modelling};
-use model::Model;
+ghost use Rattle.bursts.specs.Work.{pilotsAt, startsAt, InWork};
+ghost use Rattle.bursts.specs.Modelling.{selectedOf, Modelling};
+use crate::work::setting_of;
+use crate::work::starts_in;
+use crate::work::symbols_in;
 use model::Setting;
+use probes::Settings;
 use probes::probe_load;
 
+// How many pilots there are, 0 when refused; then all is 0.
+#[repr(C)]
 pub struct Selected {
+    pub np: usize,
     pub residuals: [f64; 9],
-    pub model: Model,
+    pub fd: u32,
+    pub tm: u32,
+    pub scale: f32,
 }
 
 // Of model t, fd outside and tm inside.
@@ -40,39 +47,30 @@ fn residuals(pc: &[u32], pg: &[u32], pf: &[f32], start: &[u32], s: Setting) -> [
     rs
 }
 
-fn choose(pc: &[u32], pg: &[u32], pf: &[f32], start: &[u32], s: Setting) -> Selected
-    requires { ⌜ Fit s (now pc) (now pg) (now pf) (now start) × FitModels (s .l) ⌝ }
-    ensures { λ r. ⌜ r ≡ selectedOf s (pilots (now (pc .entry)) (now (pg .entry)) (now (pf .entry)) (length (now (pc .entry)))) (now (start .entry)) ⌝ }
+// From the np pilots of the work lists.
+fn select(s: Setting, np: usize, w: &[u32], pf: &[f32]) -> Selected
+    requires { ⌜ InWork s np (now w) (now pf) ⌝ }
+    ensures { λ r. ⌜ r ≡ selectedOf np s (pilotsAt s np (now (w .entry)) (now (pf .entry))) (startsAt s (now (w .entry))) ⌝ }
 {
-    let residuals = residuals(pc, pg, pf, start, s);
-    let model = model::select_model(pc, pg, pf, start, s);
-    Selected { residuals, model }
-}
-
-// The same with the pilots as they stand in the work lists, np of them in room for n.
-fn from_work(w: &[u32], pf: &[f32], n: usize, np: usize, s: Setting) -> Selected
-    requires { ⌜ Loaded (take np (now w)) (take np (drop n (now w))) (take (3 * np) (now pf)) (take (s .ng + 1) (drop (2 * n) (now w))) (s .l .nc) (s .ng) np ⌝ }
-    requires { ⌜ FitModels (s .l) × (1 ≤ s .k) × (s .k ≤ 40) ⌝ }
-    requires { ⌜ (n ≤ 118156) × (np ≤ n) × (2 * n + s .ng + 1 ≤ length (now w)) × (3 * n ≤ length (now pf)) ⌝ }
-    ensures { λ r. ⌜ r ≡ selectedOf s (pilots (take np (now (w .entry))) (take np (drop n (now (w .entry)))) (take (3 * np) (now (pf .entry))) np) (take (s .ng + 1) (drop (2 * n) (now (w .entry)))) ⌝ }
-{
-    let m = 2 * n;
-    let numbers = 3 * np;
-    let ends = s.ng + 1;
-    let symbols = &w[n..];
-    let starts = &w[m..];
-    choose(&w[..np], &symbols[..np], &pf[..numbers], &starts[..ends], s)
+    let pc = &w[..np];
+    let pg = symbols_in(s, np, w);
+    let n = 3 * np;
+    let f = &pf[..n];
+    let start = starts_in(s, np, w);
+    let residuals = residuals(pc, pg, f, start, s);
+    let m = model::select_model(pc, pg, f, start, s);
+    Selected {
+        np,
+        residuals,
+        fd: m.fd,
+        tm: m.tm,
+        scale: m.scale,
+    }
 }
 
 #[no_mangle]
 pub extern "C" fn probe_models(
-    number: u32,
-    sparse: bool,
-    gain: f32,
-    nsym: usize,
-    boost: f32,
-    p_h: f32,
-    es: f32,
+    s: Settings,
     k: usize,
     grid: &[f32],
     sigma: &[f32],
@@ -80,45 +78,18 @@ pub extern "C" fn probe_models(
     expected: &[f32],
     w: &mut [u32],
     pf: &mut [f32],
-    nine: &mut [f64; 9],
-    index: &mut [u32; 2],
-    scale: &mut [f32; 1],
-) -> usize
-    ensures { λ r. ⌜ Modelling (settingOf (layoutOf number) sparse k (sourceOf (layoutOf number) sparse gain nsym boost «p_h» es)) nsym (sourceOf (layoutOf number) sparse gain nsym boost «p_h» es) (now (grid .entry)) (now (sigma .entry)) (now (cells .entry)) (now (expected .entry)) (now (w .entry)) (now (pf .entry)) (now (nine .entry)) (now (index .entry)) (now (scale .entry)) (now (w .exit)) (now (pf .exit)) (now (nine .exit)) (now (index .exit)) (now (scale .exit)) r ⌝ }
+) -> Selected
+    ensures { λ r. ⌜ Modelling s k (now (grid .entry)) (now (sigma .entry)) (now (cells .entry)) (now (expected .entry)) (now (w .entry)) (now (pf .entry)) (now (w .exit)) (now (pf .exit)) r ⌝ }
 {
-    let np = probe_load(
-        number,
-        sparse,
-        gain,
-        nsym,
-        boost,
-        p_h,
-        es,
-        grid,
-        sigma,
-        cells,
-        expected,
-        w,
-        pf,
-    );
+    let np = probe_load(s, grid, sigma, cells, expected, w, pf);
     if np == 0 {
-        return 0;
+        return Selected {
+            np: 0,
+            residuals: [0.0; 9],
+            fd: 0,
+            tm: 0,
+            scale: 0.0,
+        };
     }
-    let l = layout::layout(number);
-    let ng = l.ng(nsym);
-    let n = ng * l.nc;
-    let s = Setting {
-        l,
-        sparse,
-        ng,
-        k: est::held_k(k),
-        p_h,
-    };
-    let chosen = from_work(w, pf, n, np, s);
-    let residuals = chosen.residuals;
-    let m = chosen.model;
-    *nine = residuals;
-    *index = [m.fd, m.tm];
-    *scale = [m.scale];
-    np
+    select(setting_of(s, k), np, w, pf)
 }

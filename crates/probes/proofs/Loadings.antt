@@ -1,6 +1,7 @@
--- `Loading` where a list is too short, and where all are long enough; and the sizes of a burst.
+-- The tests of `probe_load`, and `Loading` where a list is too short, and where all are long enough.
 use Prim.Native.Nat.{ℕ, _-_, _≤_}
-use mathlib.Core.Path.{refl}
+use mathlib.Core.Bool.{true, false}
+use mathlib.Core.Path.{_≡_, refl}
 use mathlib.Core.List.{List}
 use mathlib.Core.Logic.{inl, inr}
 use native.Mathlib.Nat.{mul-le-mul, le-trans}
@@ -11,15 +12,22 @@ use Rattle.load.specs.declared.found.Source.{Source}
 use Rattle.load.specs.Find.{foundAt}
 use Rattle.load.specs.Fit.{places, ncell}
 use Rattle.load.specs.Work.{Loads}
-use Rattle.probes.specs.Loading.{Small, Lent, Loading}
+use Rattle.probes.specs.declared.pilots.Settings.{Settings}
+use Rattle.probes.specs.Loading.{sourceFor, Small, Misses, Lent, Loading}
 
-module _ (nsym : ℕ) (s : Source) (grid sigma cells expected : List Float) (w₀ : List ℕ) (pf₀ : List Float) where
-  pub refused : (Lent nsym s grid sigma cells expected w₀ pf₀ → ⊥) → Loading nsym s grid sigma cells expected w₀ pf₀ w₀ pf₀ 0
-  refused n = record { loads = λ l. absurd (n l); short = λ _. (refl, refl, refl); either = inl refl }
+pub missed : {P : Type 0} → (P → ⊥) → Misses true P
+missed n = record { no = λ _. n; yes = λ e. let z : _≡_ {A = ℕ} 0 1 = cc e in absurd (omega arith) }
 
-  pub taken : (w : List ℕ) (pf : List Float) (r : ℕ) → Lent nsym s grid sigma cells expected w₀ pf₀ → Loads s grid (foundAt s sigma cells expected) w pf r
-      → Loading nsym s grid sigma cells expected w₀ pf₀ w pf r
-  taken w pf r l h = record { loads = λ _. h; short = λ n. absurd (n l); either = inr l }
+pub met : {P : Type 0} → P → Misses false P
+met p = record { no = λ e. let z : _≡_ {A = ℕ} 0 1 = cc e in absurd (omega arith); yes = λ _. p }
+
+module _ {t : Settings} {s : Source} (is : s ≡ sourceFor t) {grid sigma cells expected : List Float} {w₀ : List ℕ} {pf₀ : List Float} where
+  pub refused : (Lent (t .nsym) s grid sigma cells expected w₀ pf₀ → ⊥) → Loading t grid sigma cells expected w₀ pf₀ w₀ pf₀ 0
+  refused n = let m = rw is at n in record { loads = λ l. absurd (m l); short = λ _. (refl, refl, refl); either = inl refl }
+
+  pub taken : {w : List ℕ} {pf : List Float} {r : ℕ} → Lent (t .nsym) s grid sigma cells expected w₀ pf₀ → Loads s grid (foundAt s sigma cells expected) w pf r
+      → Loading t grid sigma cells expected w₀ pf₀ w pf r
+  taken l h = let m = rw is at l in let k = rw is at h in record { loads = λ _. k; short = λ n. absurd (n m); either = inr m }
 
 pub places-small : (s : Source) → Small s → places s ≤ 118156
 places-small s h = le-trans (mul-le-mul (h .symbols) (h .few)) (lit≤ tt)

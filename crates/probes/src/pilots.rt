@@ -1,64 +1,79 @@
 // load: a list that is too short, or more symbols than a burst has, gives 0 and leaves the work lists as they were.
-ghost use mathlib.Core.Path.{_≡_};
 ghost use Prim.Native.Nat.{_≤_};
-ghost use Rattle.layout.specs.Layouts.{layoutOf};
-ghost use Rattle.load.specs.Fit.{sourceOf, places, ncell};
-ghost use Rattle.probes.specs.Loading.{Small, Sourced, Loading};
+ghost use Rattle.load.specs.Fit.{Room};
+ghost use Rattle.probes.specs.Loading.{Small, Sourced, Long, Misses, Loading};
 use layout::Map;
 use load::Source;
 
-fn source_of(
-    number: u32,
-    sparse: bool,
-    gain: f32,
-    nsym: usize,
-    boost: f32,
-    p_h: f32,
-    es: f32,
-) -> Source
-    requires { ⌜ nsym ≤ 1023 ⌝ }
-    ensures { λ r. ⌜ Sourced number sparse gain nsym boost «p_h» es r ⌝ }
+// Layout by number, sparse pilots, the data pilots' gain, data symbols, the reference symbol's boost, the channel's mean power, the points' mean
+// energy.
+#[repr(C)]
+pub struct Settings {
+    pub layout: u32,
+    pub sparse: bool,
+    pub gain: f32,
+    pub nsym: usize,
+    pub boost: f32,
+    pub p_h: f32,
+    pub es: f32,
+}
+
+fn source_of(s: Settings) -> Source
+    requires { ⌜ s .nsym ≤ 1023 ⌝ }
+    ensures { λ r. ⌜ Sourced s r ⌝ }
 {
-    let l = layout::layout(number);
-    let map = Map::new(l, sparse, gain);
-    let dc = l.data_carriers(sparse);
-    let ng = l.ng(nsym);
+    let l = layout::layout(s.layout);
     Source {
-        map,
-        dc,
-        ng,
-        boost,
-        p_h,
-        es,
+        map: Map::new(l, s.sparse, s.gain),
+        dc: l.data_carriers(s.sparse),
+        ng: l.ng(s.nsym),
+        boost: s.boost,
+        p_h: s.p_h,
+        es: s.es,
     }
 }
 
-// ng * nc.
-fn places_of(s: Source) -> usize
+// Whether a list that is read is too short.
+fn short(s: Source, sigma: &[f32], cells: &[f32], expected: &[f32]) -> bool
     requires { ⌜ Small s ⌝ }
-    ensures { λ r. ⌜ (r ≡ places s) × (r ≤ 118156) ⌝ }
+    ensures { λ r. ⌜ Misses r (Long s (now (sigma .entry)) (now (cells .entry)) (now (expected .entry))) ⌝ }
 {
     let m = s.map;
-    s.ng * m.nc
+    let n = (s.ng - m.hdr_end) * s.dc;
+    if sigma.len() < m.nc {
+        return true;
+    }
+    if cells.len() < n {
+        return true;
+    }
+    if expected.len() < 3 * n {
+        return true;
+    }
+    false
 }
 
-fn ncell_of(s: Source) -> usize
+// The same of the grid and the work lists.
+fn no_room(s: Source, grid: &[f32], w: &[u32], pf: &[f32]) -> bool
     requires { ⌜ Small s ⌝ }
-    ensures { λ r. ⌜ (r ≡ ncell s) × (r ≤ 107316) ⌝ }
+    ensures { λ r. ⌜ Misses r (Room s (now (grid .entry)) (now (w .entry)) (now (pf .entry))) ⌝ }
 {
     let m = s.map;
-    (s.ng - m.hdr_end) * s.dc
+    let n = s.ng * m.nc;
+    if grid.len() < 2 * n {
+        return true;
+    }
+    if w.len() < 2 * n + s.ng + 1 {
+        return true;
+    }
+    if pf.len() < 3 * n {
+        return true;
+    }
+    false
 }
 
 #[no_mangle]
 pub extern "C" fn probe_load(
-    number: u32,
-    sparse: bool,
-    gain: f32,
-    nsym: usize,
-    boost: f32,
-    p_h: f32,
-    es: f32,
+    s: Settings,
     grid: &[f32],
     sigma: &[f32],
     cells: &[f32],
@@ -66,32 +81,17 @@ pub extern "C" fn probe_load(
     w: &mut [u32],
     pf: &mut [f32],
 ) -> usize
-    ensures { λ r. ⌜ Loading nsym (sourceOf (layoutOf number) sparse gain nsym boost «p_h» es) (now (grid .entry)) (now (sigma .entry)) (now (cells .entry)) (now (expected .entry)) (now (w .entry)) (now (pf .entry)) (now (w .exit)) (now (pf .exit)) r ⌝ }
+    ensures { λ r. ⌜ Loading s (now (grid .entry)) (now (sigma .entry)) (now (cells .entry)) (now (expected .entry)) (now (w .entry)) (now (pf .entry)) (now (w .exit)) (now (pf .exit)) r ⌝ }
 {
-    if nsym > 1023 {
+    if s.nsym > 1023 {
         return 0;
     }
-    let s = source_of(number, sparse, gain, nsym, boost, p_h, es);
-    let n = places_of(s);
-    let k = ncell_of(s);
-    let m = s.map;
-    if sigma.len() < m.nc {
+    let source = source_of(s);
+    if short(source, sigma, cells, expected) {
         return 0;
     }
-    if cells.len() < k {
+    if no_room(source, grid, w, pf) {
         return 0;
     }
-    if expected.len() < 3 * k {
-        return 0;
-    }
-    if grid.len() < 2 * n {
-        return 0;
-    }
-    if w.len() < 2 * n + s.ng + 1 {
-        return 0;
-    }
-    if pf.len() < 3 * n {
-        return 0;
-    }
-    load::load(s, grid, sigma, cells, expected, w, pf)
+    load::load(source, grid, sigma, cells, expected, w, pf)
 }

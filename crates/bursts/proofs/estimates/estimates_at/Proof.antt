@@ -3,28 +3,26 @@ use Prim.Native.Nat.{_-_, _*_, _≤_}
 use mathlib.Core.Path.{_≡_, refl, ap, _∙_}
 use mathlib.Core.List.{_++_}
 use native.Mathlib.Omega.{arith}
-use borrow.Author.Needs.{needs}
 use lib.ListN.{length, getD, take, drop}
 use Rattle.seq.specs.Cat.{cat}
 use Rattle.seq.specs.Cat.Laws.{cat-none, cat-more, length-catted}
 use Rattle.load.specs.Pilots.{pilots}
 use Rattle.est.specs.declared.combine.Estimate.{Estimate}
-use Rattle.bursts.specs.Estimating.{flatEstimate, ownOf, estimateAt, estimatesAt}
+use Rattle.bursts.specs.Estimating.{flatEstimate, estimateAt, estimatesAt}
 use Rattle.bursts.proofs.Rests.{rest-room, rest-put}
+use borrow.Author.Needs.{needs}
 use Rattle.bursts.proofs.estimates.estimates_at.Statement.{statement}
 use Rattle.bursts.proofs.estimates.estimates_at.Tie as tie
 
 abbrev Inv-loop : tie.InvT-loop
-Inv-loop pc pg pf start rf rt u w p-h scale at out₀ n i₀ out i =
-    (i ≤ length at) × (out ≡ cat i (λ k. flatEstimate (estimateAt w p-h scale (pilots pc pg pf (length pc)) start (ownOf (pilots pc pg pf (length pc)) start) u rf rt (getD at k 0))) ++ drop (i * 3) out₀)
+Inv-loop f pc pg pf start rf rt at out₀ n i₀ out i =
+    (i ≤ length at) × (out ≡ cat i (λ k. flatEstimate (estimateAt f (pilots pc pg pf (length pc)) start rf rt (getD at k 0))) ++ drop (i * 3) out₀)
 
 abbrev μ-loop : tie.MeasureT-loop
-μ-loop pc pg pf start rf rt u w p-h scale at out₀ n i₀ out i = length at - i
+μ-loop f pc pg pf start rf rt at out₀ n i₀ out i = length at - i
 
 same-len : (c : tie.At-loop Inv-loop μ-loop) → length (c .loop .out) ≡ length (c .before .before .before .before .before .before .before .before .before .args .out .now)
-same-len c =
-    ap length (c .loop .inv .1)
-    ∙ length-catted 3 _ (λ k. refl) (c .loop .i) _ (omega (arith, c .loop .inv .0, c .before .before .before .before .before .before .before .before .before .pre .1))
+same-len c = ap length (c .loop .inv .1) ∙ length-catted 3 _ (λ k. refl) (c .loop .i) _ (omega (arith, c .loop .inv .0, c .before .before .before .before .before .before .before .before .before .pre .1))
 
 loop-holds : tie.Need-loop-holds Inv-loop μ-loop
 loop-holds c = (omega arith, cat-none 3 _ _)
@@ -42,10 +40,10 @@ estimate-at-requires : tie.Need-estimate-at-requires Inv-loop μ-loop
 estimate-at-requires c κs = c .before .before .before .before .before .before .before .before .before .before .before .pre .0
 
 mul-from : tie.Need-mul-from Inv-loop μ-loop
-mul-from c = let s = c .before .before .before .before .before .before .before .before .before .before .before .before in omega (arith, s .pre .1, c .before .before .loop-test .taken, s .good .1 .1 .1 .1 .1 .1 .1 .1 .1 .1 .1 .0 .1)
+mul-from c = let s = c .before .before .before .before .before .before .before .before .before .before .before .before in omega (arith, s .pre .1, c .before .before .loop-test .taken, s .good .1 .1 .1 .1 .1 .1 .1 .1 .0 .1)
 
 mul-put3 : tie.Need-mul-put3 Inv-loop μ-loop
-mul-put3 c = let s = c .before .before .before .before .before .before .before .before .before .before .before .before in omega (arith, s .pre .1, c .before .before .loop-test .taken, s .good .1 .1 .1 .1 .1 .1 .1 .1 .1 .1 .1 .0 .1)
+mul-put3 c = let s = c .before .before .before .before .before .before .before .before .before .before .before .before in omega (arith, s .pre .1, c .before .before .loop-test .taken, s .good .1 .1 .1 .1 .1 .1 .1 .1 .0 .1)
 
 sub-put3 : tie.Need-sub-put3 Inv-loop μ-loop
 sub-put3 c = let s = c .before .before .before .before .before .before .before .before .before .before .before .before in omega (arith, s .pre .1, c .before .before .loop-test .taken, same-len (c .before .before .before))
@@ -60,7 +58,7 @@ put3-requires : tie.Need-put3-requires Inv-loop μ-loop
 put3-requires c κs = let s = c .before .before .before .before .before .before .before .before .before .before .before .before .before in rest-room _ (c .before .before .before .before .loop .out) 3 (omega (arith, s .pre .1, c .before .before .before .loop-test .taken, same-len (c .before .before .before .before)))
 
 add-i : tie.Need-add-i Inv-loop μ-loop
-add-i c = let s = c .before .before .before .before .before .before .before .before .before .before .before .before .before .before .before .before in omega (arith, s .pre .1, c .before .before .before .before .before .before .loop-test .taken, s .good .1 .1 .1 .1 .1 .1 .1 .1 .1 .1 .1 .0 .1)
+add-i c = let s = c .before .before .before .before .before .before .before .before .before .before .before .before .before .before .before .before in omega (arith, s .pre .1, c .before .before .before .before .before .before .loop-test .taken)
 
 loop-less : tie.Need-loop-less Inv-loop μ-loop
 loop-less c = omega arith

@@ -1,18 +1,16 @@
 -- `probes::source_of`: every layout fits, and is small.
 use mathlib.Core.Path.{_≡_, refl}
-use Prim.Native.Nat.{ℕ, _-_, _≤_}
-use mathlib.Core.Bool.{Bool}
+use Prim.Native.Nat.{_-_, _≤_}
 use native.Mathlib.Omega.{arith}
 use borrow.Author.Needs.{needs}
-use lib.Ieee.{Float}
 use Rattle.layout.specs.Layouts.{layoutOf}
 use Rattle.layout.specs.Maps.{mapOf}
 use Rattle.layout.specs.Sizes.{ngOf, preSyms}
 use Rattle.layout.proofs.Fits.{layout-fits}
 use Rattle.layout.proofs.Bounds.{bounds}
-use Rattle.load.specs.Fit.{sourceOf}
 use Rattle.load.proofs.Sources.{source-fits}
-use Rattle.probes.specs.Loading.{Sourced}
+use Rattle.probes.specs.declared.pilots.Settings.{Settings}
+use Rattle.probes.specs.Loading.{sourceFor, Sourced}
 use Rattle.probes.proofs.pilots.source_of.Statement.{statement}
 use Rattle.probes.proofs.pilots.source_of.Tie as tie
 
@@ -28,21 +26,22 @@ data-carriers-requires c κs = rw (c .before .layout .ensures) (layout-fits _ .s
 ng-requires : tie.Need-ng-requires
 ng-requires c κs = (rw (c .before .before .layout .ensures) (layout-fits _ .sizes), search needs)
 
-sourced : (number : ℕ) (sparse : Bool) (gain : Float) (nsym : ℕ) (boost power es : Float) → nsym ≤ 1023 → Sourced number sparse gain nsym boost power es (sourceOf (layoutOf number) sparse gain nsym boost power es)
+sourced : (t : Settings) → t .nsym ≤ 1023 → Sourced t (sourceFor t)
 unfolding mapOf
-sourced number sparse gain nsym boost power es h =
-    let b = bounds .layout number sparse in
-    let n : ngOf (layoutOf number) nsym - preSyms (layoutOf number) ≡ nsym = omega arith in
+sourced t h =
+    let l = layoutOf (t .layout) in
+    let b = bounds .layout (t .layout) (t .sparse) in
+    let n : ngOf l (t .nsym) - preSyms l ≡ t .nsym = omega arith in
     record {
       is = refl;
       small = record { symbols = omega (arith, b .pre-high); leading = omega arith; few = b .nc-high; cells = b .dc-high };
-      fit = λ sg ce ex u v w. source-fits number sparse gain nsym boost power es sg ce ex h u (rw n at v) (rw n at w);
+      fit = λ sg ce ex u. source-fits (t .layout) (t .sparse) (t .gain) (t .nsym) (t .boost) (t .«p_h») (t .es) sg ce ex h (u .in-sigma) (rw n at (u .in-cells)) (rw n at (u .in-expected));
     }
 
 returns : tie.Need-returns
 returns c =
     rw (c .ng .ensures, c .before .data-carriers .ensures, c .before .before .new .ensures, c .before .before .before .layout .ensures)
-    (sourced _ _ _ _ _ _ _ (c .before .before .before .before .pre))
+    (sourced _ (c .before .before .before .before .pre))
 
 pub source-of-spec : {M : Type 1} → statement M
 source-of-spec =
