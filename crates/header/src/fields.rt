@@ -21,7 +21,7 @@ pub struct Header {
 
 impl Header {
     // No field is too wide, and part 11 of document 01 accepts them together.
-    pub fn accepted(self) -> bool
+    pub(crate) fn accepted(self) -> bool
         ensures { λ r. ⌜ r ≡ accepted self ⌝ }
     {
         let narrow = (self.constellation <= 3) & (self.nsym <= 1023) & (self.mode.gain_code <= 3);
@@ -32,7 +32,7 @@ impl Header {
         narrow & (self.extra == 0)
     }
 
-    pub fn data_from(info: u32) -> Header
+    pub(crate) fn data_from(info: u32) -> Header
         ensures { λ r. ⌜ r ≡ dataFrom info ⌝ }
     {
         Header {
@@ -45,7 +45,7 @@ impl Header {
         }
     }
 
-    pub fn only_from(info: u32) -> Header
+    pub(crate) fn only_from(info: u32) -> Header
         ensures { λ r. ⌜ r ≡ onlyFrom info ⌝ }
     {
         Header {

@@ -21,13 +21,13 @@ impl DataMode {
     };
 
     // Three bits of the header, 3..1 of its last four.
-    pub fn bits(self) -> u32
+    pub(crate) fn bits(self) -> u32
         ensures { λ r. ⌜ r ≡ modeBits self ⌝ }
     {
         flag(self.spread) * 2 + self.gain_code as u32 * 4
     }
 
-    pub fn from_bits(r: u32) -> DataMode
+    pub(crate) fn from_bits(r: u32) -> DataMode
         ensures { λ m. ⌜ m ≡ modeFrom r ⌝ }
     {
         DataMode {
