@@ -1,12 +1,12 @@
 -- A record that is not turned away has at most 4,086 bits, so that 16,354 bytes hold its answer. Assumes nothing.
-use Prim.Native.Nat.{ℕ, _+_, _*_, _≤_}
-use mathlib.Core.Path.{_≡_, refl, sym, _∙_}
-use mathlib.Core.Bool.{Bool, true, false, cond}
+use Prim.Native.Nat.{ℕ, _≤_}
+use mathlib.Core.Path.{_≡_, refl}
+use mathlib.Core.Bool.{Bool, true}
 use mathlib.Core.List.{List}
 use native.Mathlib.Decide.{ℕ-discrete}
 use native.Mathlib.Omega.{arith}
 use borrow.Author.Tests.{eq-eqb, ne-eqb, le-leb}
-use lib.Dec.{eqb, leb}
+use lib.Dec.{leb}
 use Rattle.refine.specs.Refine.{nbits}
 use Rattle.wire.specs.Record.{burstOf}
 use Rattle.wire.specs.Shape.{shapeRefusal, bitsOf, answerLength}

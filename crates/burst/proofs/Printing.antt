@@ -1,15 +1,14 @@
 -- What is put into the text is what the record's lines mean. Assumes nothing.
 use Prim.Native.Nat.{ℕ, _+_, _*_, _<_, _≤_}
-use mathlib.Core.Path.{_≡_, refl, sym, ap, ap₂, subst, _∙_}
+use mathlib.Core.Path.{_≡_, refl, sym, ap, _∙_}
 use mathlib.Core.Bool.{true}
-use mathlib.Core.List.{List, [], _∷_, _++_, append-assoc}
+use mathlib.Core.List.{List, _++_, append-assoc}
 use native.Mathlib.Nat.{zero-add}
 use native.Mathlib.Omega.{arith}
 use borrow.Author.Tests.{eq-eqb, ne-eqb}
 use lib.ListN.{length, drop, getD, length-append}
 use lib.Dec.{leb}
 use lib.Ieee.{Float, binary32, toBits, nan}
-use Rattle.seq.specs.Cat.{cat}
 use Rattle.seq.specs.Cat.Laws.{cat-same}
 use Rattle.refine.specs.declared.whole.Refined.{Refined}
 use Rattle.refine.specs.Refine.{nbits, refinedOf, answerOf}
@@ -20,7 +19,7 @@ use Rattle.record.specs.Refusals.{refusalIn}
 use Rattle.wire.specs.Bytes.{reportBytes, numberBytes}
 use Rattle.record.specs.Answer.{answerBytes, Answers}
 use Rattle.burst.specs.Text.{put, Puts}
-use Rattle.burst.specs.Lines.{lineOf, headingOf, heading, likelihoodLines, refusedOf, answerLines, linesOf, Printed}
+use Rattle.burst.specs.Lines.{lineOf, heading, likelihoodLines, refusedOf, answerLines, linesOf, Printed}
 use Rattle.burst.proofs.Reading.{word-past, word-of}
 use Rattle.burst.proofs.Accepted.{room-enough, bits-of}
 

@@ -1,6 +1,6 @@
 -- A number read back from the bytes that it was written in. Assumes nothing.
-use Prim.Native.Nat.{ℕ, _+_, _*_, _/_, _%_, _^_, _<_}
-use mathlib.Core.Path.{_≡_, refl, sym, ap, _∙_}
+use Prim.Native.Nat.{ℕ, _+_, _*_, _<_}
+use mathlib.Core.Path.{_≡_, ap, _∙_}
 use mathlib.Core.List.{List, _++_}
 use native.Mathlib.Omega.{arith}
 use lib.ListN.{length, getD, List·getD-append}
@@ -8,10 +8,7 @@ use lib.Seq.{getD-append-add}
 use Rattle.seq.specs.Cat.{cat}
 use Rattle.seq.specs.Cat.Laws.{length-cat, getD-cat}
 use Rattle.words.specs.Bytes.{wordAt, word}
-
-length-word : (x : ℕ) → length (word x) ≡ 4
-unfolding word
-length-word x = refl
+use Rattle.words.proofs.Stored.{length-word}
 
 -- past a part p of n bytes
 pub word-past : (p l : List ℕ) (n k : ℕ) → length p ≡ n → wordAt (p ++ l) (n + k) ≡ wordAt l k

@@ -1,7 +1,7 @@
 -- Lines as document 01 prints them. Proved in proofs/AsPrinted.antt.
-use Prim.Native.Nat.{ℕ, _^_}
+use Prim.Native.Nat.{_^_}
 use mathlib.Core.Path.{_≡_}
-use mathlib.Core.List.{List, [], _∷_}
+use mathlib.Core.List.{[], _∷_}
 use lib.Ieee.{binary32, toBits, nan}
 use Rattle.burst.specs.Lines.{headingOf, lineOf, refusedOf}
 

@@ -1,5 +1,5 @@
 -- What stands in the work lists where a burst was loaded, and what the probes answer then. Assumes nothing.
-use Prim.Native.Nat.{ℕ, _+_, _*_, _≤_}
+use Prim.Native.Nat.{ℕ, _*_, _≤_}
 use mathlib.Core.Path.{_≡_, refl, sym, ap, _∙_}
 use mathlib.Core.Bool.{false}
 use mathlib.Core.List.{List}
@@ -28,7 +28,7 @@ use Rattle.probes.specs.declared.pilots.Settings.{Settings}
 use Rattle.probes.specs.Loading.{sourceFor, Lent, Loading}
 use Rattle.bursts.specs.declared.estimates.Asked.{Asked}
 use Rattle.bursts.specs.declared.models.Selected.{Selected}
-use Rattle.bursts.specs.Work.{settingFor, Set, pilotsIn, startsIn, placesIn, pilotsAt, startsAt, InWork}
+use Rattle.bursts.specs.Work.{Set, pilotsIn, startsIn, placesIn, pilotsAt, startsAt, InWork}
 use Rattle.bursts.specs.Estimating.{estimatesBy, putBy, Estimating}
 use Rattle.bursts.specs.Modelling.{nothing, selectedOf, Modelling}
 

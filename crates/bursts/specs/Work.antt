@@ -16,7 +16,6 @@ use Rattle.est.specs.Estimate.{heldK}
 use Rattle.model.specs.Values.{FitModels}
 use Rattle.model.specs.declared.trial.Setting.{Setting}
 use Rattle.probes.specs.declared.pilots.Settings.{Settings}
-use Rattle.probes.specs.Loading.{sourceFor}
 
 -- with k held
 abbrev pub settingFor : Settings → ℕ → Setting

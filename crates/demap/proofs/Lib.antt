@@ -1,5 +1,4 @@
 pub mod Constants
-pub mod Chain
 pub mod Difference
 pub mod Bounds
 pub mod Top

@@ -16,7 +16,7 @@ use Rattle.ieee.proofs.Orders.{max-laws}
 use Rattle.soft.specs.Soft.{bitOf}
 use Rattle.demap.specs.Demap.{at, topOf, sumTurn, sumOf}
 use Rattle.demap.specs.Shared.{Over, Asked, Shared, pickTurn, pickedOf}
-use Rattle.demap.proofs.Chain.{not-below}
+use Rattle.ieee.proofs.Transitive.{not-below}
 use Rattle.demap.proofs.Difference.{not-above}
 use Rattle.demap.proofs.Top.{found}
 

@@ -24,7 +24,7 @@ use Rattle.elementary.proofs.Laws.{exp-laws}
 use Rattle.points.proofs.Counts.{at-most-64}
 use Rattle.soft.specs.Soft.{bitOf}
 use Rattle.demap.specs.Demap.{at, topOf, sumTurn, sumOf}
-use Rattle.demap.proofs.Chain.{not-below}
+use Rattle.ieee.proofs.Transitive.{not-below}
 use Rattle.demap.proofs.Difference.{from-itself, from-lowest}
 use Rattle.demap.proofs.Bounds.{Lies, le-lies, add-lies}
 use Rattle.demap.proofs.Top.{Own, Taken, Found, found, last, for-each}

@@ -18,7 +18,7 @@ use Rattle.ieee.proofs.Orders.{max-laws, le-number}
 use Rattle.elementary.specs.Domain.{Number, NotAbove}
 use Rattle.soft.specs.Soft.{bitOf}
 use Rattle.demap.specs.Demap.{at, lowest, topTurn, topOf}
-use Rattle.demap.proofs.Chain.{not-below}
+use Rattle.ieee.proofs.Transitive.{not-below}
 use Rattle.demap.proofs.Difference.{not-above}
 
 -- what each turn makes of what held before it

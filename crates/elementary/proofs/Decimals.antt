@@ -4,7 +4,7 @@ use mathlib.Core.Bool.{true, false}
 use Prim.Native.Nat.{_^_}
 use lib.IntN.{pos, negsuc}
 use lib.Ieee.{fin, binary32, binary64, neg, round, ofBits}
-use Rattle.elementary.specs.Constants.{zero+, unit, zero64, minus87, least, most}
+use Rattle.elementary.specs.Constants.{zero+, unit, zero64, minus87, least, most, pi}
 
 -- ---- as the nearest value to the decimal
 pub zero-decimal : zero+ ≡ round binary32 false 0 1
@@ -30,6 +30,10 @@ least-decimal = refl
 pub most-decimal : most ≡ round binary64 false 512 1
 unfolding ofBits round
 most-decimal = refl
+
+pub pi-decimal : pi ≡ round binary64 false 314159265358979323846264338327950288 (10 ^ 35)
+unfolding ofBits round
+pi-decimal = refl
 
 -- ---- as a whole number times a power of two
 pub zero-is : zero+ ≡ fin false 0 (pos 0)

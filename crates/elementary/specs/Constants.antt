@@ -22,3 +22,7 @@ least = ofBits binary32 0x0da2_4260
 -- 512: sin and cos are asked up to it
 abbrev pub most : Float
 most = ofBits binary64 0x4080_0000_0000_0000
+
+-- PI of the source's library: no recipe names it, the angles that callers ask about are made of it
+abbrev pub pi : Float
+pi = ofBits binary64 0x4009_21fb_5444_2d18

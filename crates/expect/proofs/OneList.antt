@@ -6,7 +6,7 @@ use mathlib.Core.List.{List, _++_}
 use native.Mathlib.Nat.{mul-assoc}
 use native.Mathlib.Omega.{arith}
 use lib.ListN.{length, getD, take, drop, List·getD-append}
-use lib.Seq.{take-at, drop-at, drop-drop, getD-take, getD-drop}
+use lib.Seq.{drop-at, drop-drop, getD-take, getD-drop}
 use lib.Ieee.{Float, nan}
 use Rattle.seq.specs.Loop.Laws.{for-same}
 use Rattle.seq.specs.Cat.{cat}

@@ -2,8 +2,9 @@
 use mathlib.Core.Path.{_≡_, refl, sym, _∙_, subst}
 use Prim.Native.Nat.{ℕ, _*_, _%_, _^_, _≤_, _<_}
 use mathlib.Core.Bool.{Bool, true, false, not, cond}
-use lib.Dec.{T, ltb, lt→ltb}
-use lib.Ieee.{Float, nan, inf, fin, Format, binary32, binary64, up, down, low, prec, ones, hid, top, odd, units, round, ofBits, isNan, nanBits, div, ne}
+use lib.Dec.{T, ltb, lt→ltb, le→leb}
+use lib.IntN.{pos}
+use lib.Ieee.{Float, nan, inf, fin, Format, binary32, binary64, up, down, low, prec, ones, hid, top, odd, units, round, ofBits, isNan, nanBits, div, ne, inFloat}
 use lib.Ieee.Compare.{nan-differs}
 use lib.Arith.{le→nltb}
 use lib.Ieee.Bits.{nanBits-above, nanBits-is}
@@ -67,3 +68,8 @@ no-nan-bits b h = no-nan-pattern binary64 b h
 pub quotient-nan64 : div binary64 (ofBits binary64 0) (ofBits binary64 0) ≡ nan
 unfolding div ofBits
 quotient-nan64 = refl
+
+-- a number that f counts without a gap
+pub counted : (f : Format) (n : ℕ) → n ≤ 2 ^ prec f → T (inFloat f (pos n))
+unfolding inFloat
+counted f n h = le→leb n (2 ^ prec f) h

@@ -10,6 +10,7 @@ use lib.Arith.{le→nltb}
 use lib.Pow.{pow-pos}
 use lib.IntN.{ℤ, pos, negsuc}
 use lib.Ieee.{Float, nan, inf, fin, binary64, up, down, below, level, lt, le, eq, ne, neg, isNan, fits, ofBits}
+use lib.Ieee.Bits.{is-false}
 use lib.Ieee.Compare.{differs-from-itself}
 use lib.Ieee.Fits.{and-l, and-r, up-pos}
 use borrow.Author.Tests.{ltb-true, ltb-false, lt-ltb, le-ltb, eq-eqb}
@@ -91,11 +92,7 @@ not-lt-le (fin s m e') (inf false) h k e = absurd (subst T e tt)
 not-lt-le (fin s m e') (fin t n d) h k e = neither s (m * up e' * down d) t (n * up d * down e') e
 
 pub le-itself : (x : Float) → T (not (isNan x)) → T (le x x)
-le-itself x h = not-lt-le x x h h (not-true (lt x x) (not-below-itself x))
-  where
-    not-true : (b : Bool) → T (not b) → b ≡ false
-    not-true true h = absurd h
-    not-true false h = refl
+le-itself x h = not-lt-le x x h h (is-false (lt x x) (not-below-itself x))
 
 -- what compares is no NaN
 pub le-number : (x y : Float) → T (le x y) → T (not (isNan x)) × T (not (isNan y))

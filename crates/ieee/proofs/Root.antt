@@ -11,7 +11,7 @@ use lib.Ieee.Digits.{size-lt}
 use lib.Ieee.Fits.{two, two-le-pos, down-pos}
 use lib.Ieee.Exact.{HasValue}
 use Rattle.ieee.specs.Root.{rootIn, isqrt, Near, rootOf, rooted}
-use Rattle.ieee.proofs.Codec.{size-is, Cmp, cmp}
+use Rattle.ieee.proofs.Codec.{size-is, mid-pat, pred-suc-add, Cmp, cmp}
 
 -- ---- squares
 pub sq-suc : (a : ℕ) → suc a * suc a ≡ a * a + 2 * a + 1
@@ -139,12 +139,6 @@ pub rootOf-shaped : (f : Format) (N : ℕ) → rootOf f N ≡ shaped f N (size (
 unfolding rootOf
 rootOf-shaped f N = refl
 
-same-digits : (p k z : ℕ) → 0 < p → z ≡ suc (p - 1 + k) → z - p ≡ k
-same-digits p k z P e = omega arith
-
-pred-suc-add : (p k : ℕ) → 0 < p → suc (p - 1 + k) ≡ p + k
-pred-suc-add p k h = omega arith
-
 pub root-is : (f : Format) (S k r : ℕ) → 2 ^ (prec f - 1) * 2 ^ (prec f - 1) ≤ S → S < 2 ^ prec f * 2 ^ prec f → Near S r → rootOf f (S * (2 ^ k * 2 ^ k)) ≡ units f false r k
 root-is f S k r lo hi n =
     let p = prec f in
@@ -165,7 +159,7 @@ root-is f S k r lo hi n =
     let q-lt : q < 2 ^ p = sq-lt q (2 ^ p) (lt-of-le-of-lt (R .0) hi) in
     let w-ge : 2 ^ (p - 1 + k) ≤ w = le-trans (le-of-eq (pow-add 2 (p - 1) k)) (le-trans (mul-le-mul-right x q-ge) under) in
     let w-lt : w < 2 ^ suc (p - 1 + k) = lt-of-lt-of-le over (le-trans (mul-le-mul-right x q-lt) (le-of-eq (sym (ap (λ (z : ℕ). 2 ^ z) (pred-suc-add p k P) ∙ pow-add 2 p k)))) in
-    let d : size w - p ≡ k = same-digits p k (size w) P (size-is w (p - 1 + k) w-ge w-lt) in
+    let d : size w - p ≡ k = mid-pat p k (size w) P (size-is w (p - 1 + k) w-ge w-lt) in
     rootOf-shaped f N
     ∙ ap (λ (j : ℕ). shaped f N j (w / 2 ^ j)) d
     ∙ ap (λ (z : ℕ). shaped f N k z) is

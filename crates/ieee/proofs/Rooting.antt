@@ -19,6 +19,17 @@ use Rattle.ieee.proofs.Floats.{units-no-nan}
 use Rattle.ieee.proofs.Root.{root-is, rooted-at, parts}
 
 -- ---- from the nearest whole number to the pattern
+
+-- an odd exponent doubles the significand
+pub some-doubled : (w : ℕ) → 0 < 1 + w % 2
+some-doubled w = omega arith
+
+at-most : (w : ℕ) → 1 + w % 2 ≤ 2
+at-most w = omega arith
+
+pub doubled : (m w : ℕ) → m * (1 + w % 2) ≤ m * 2
+doubled m w = mul-le-mul-left m (at-most w)
+
 leads : (S r H : ℕ) → 0 < H → H * H ≤ S → S ≤ r * r + r → H ≤ r
 leads S r H P a b = le-of-suc-le-suc (lt-of-not-le (λ (g : suc r ≤ H). clash (suc-mul r r) (mul-le-mul-right r g) (mul-lt-mul-of-pos-left g P)))
   where
@@ -37,12 +48,9 @@ module _ (f : Format) (m w r : ℕ) (lo : hid f ≤ m) (hi : m < 2 ^ prec f) (ne
 
   S-lt : m * (1 + w % 2) * hid f < 2 ^ prec f * 2 ^ prec f
   S-lt =
-      lt-of-le-of-lt (mul-le-mul-right (hid f) (mul-le-mul-left m (at-most w)))
+      lt-of-le-of-lt (mul-le-mul-right (hid f) (doubled m w))
       (lt-of-lt-of-le (mul-lt-mul-of-pos-right (mul-lt-mul-of-pos-right hi (zero-lt-suc 1)) (pow-pos (prec f - 1)))
       (le-of-eq (mul-assoc (2 ^ prec f) 2 (hid f) ∙ ap (λ (z : ℕ). 2 ^ prec f * z) (sym (twice-hid (prec f) positive-prec)))))
-    where
-      at-most : (w : ℕ) → 1 + w % 2 ≤ 2
-      at-most w = omega arith
 
   root-units : rootOf f (m * 2 ^ (prec f - 1 + w)) ≡ units f false r (w / 2)
   root-units = ap (λ (z : ℕ). rootOf f z) (parts m (prec f - 1) w) ∙ root-is f (m * (1 + w % 2) * hid f) (w / 2) r S-ge S-lt near

@@ -1,12 +1,14 @@
--- What is not below m is not below what m is not below. Assumes nothing.
+-- How comparisons chain: what is not below m is not below what m is not below. Assumes nothing.
 use Prim.Native.Nat.{ℕ, _+_, _*_, _≤_, _<_}
-use mathlib.Core.Bool.{Bool, true, false, not, cond}
+use mathlib.Core.Path.{_≡_, refl, sym, subst}
+use mathlib.Core.Bool.{Bool, true, false, not, _||_, cond}
 use native.Mathlib.Nat.{mul-le-mul-right, le-of-mul-le-mul-right}
 use native.Mathlib.Omega.{arith}
 use lib.Dec.{T, nltb→le}
 use lib.Arith.{le→nltb}
-use lib.Ieee.{Float, nan, inf, fin, up, down, below, lt, isNan}
+use lib.Ieee.{Float, nan, inf, fin, up, down, below, lt, le, eq, isNan}
 use lib.Ieee.Fits.{down-pos}
+use Rattle.ieee.proofs.Orders.{le-not-lt, le-number}
 
 -- ±x / p ≤ ±y / q, with what is below zero on the other side
 abbrev Ordered : Bool → ℕ → ℕ → Bool → ℕ → ℕ → Type 0
@@ -57,3 +59,31 @@ not-below (fin t j d) (fin u l g) (fin s i e) n h k =
     refused s (i * up e) (down e) u (l * up g) (down g)
     (chain s (i * up e) (down e) t (j * up d) (down d) u (l * up g) (down g) (down-pos d)
     (ordered s (i * up e) (down e) t (j * up d) (down d) h) (ordered t (j * up d) (down d) u (l * up g) (down g) k))
+
+-- what is at most y is below all that y is below
+pub le-lt : (x y z : Float) → T (le x y) → T (lt y z) → T (lt x z)
+le-lt x y z l h = go (lt x z) refl
+  where
+    clash : (b : Bool) → T b → T (not b) → T false
+    clash true h k = k
+    clash false h k = h
+
+    go : (b : Bool) → lt x z ≡ b → T (lt x z)
+    go true e = subst T (sym e) tt
+    go false e = absurd (clash (lt y z) h (not-below x y z (le-number x y l .0) (subst (λ (b : Bool). T (not b)) (sym e) tt) (le-not-lt x y l)))
+
+-- what was not below z is not even as small as what is
+pub not-as-small : (x y z : Float) → lt y z ≡ true → lt x z ≡ false → le x y ≡ false
+not-as-small x y z h k = go (le x y) refl
+  where
+    go : (b : Bool) → le x y ≡ b → le x y ≡ false
+    go true e = absurd (subst T k (le-lt x y z (subst T (sym e) tt) (subst T (sym h) tt)))
+    go false e = e
+
+pub not-smaller : (x y : Float) → le x y ≡ false → lt x y ≡ false
+unfolding le
+not-smaller x y e = go (lt x y) (eq x y) e
+  where
+    go : (a b : Bool) → a || b ≡ false → a ≡ false
+    go true b e = e
+    go false b e = refl

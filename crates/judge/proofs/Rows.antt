@@ -34,12 +34,6 @@ pub lent-long : (j w : ℕ) (m : List Float) → j * w + w ≤ length m → w �
 lent-long j w m h = omega (arith, lent (j * w) w m h)
 
 -- turn j of n, and two numbers of it
-pub one-more : {j n : ℕ} → j < n → j + 1 ≤ n
-one-more b = omega arith
-
-pub one-less : {j n : ℕ} → j < n → n - (j + 1) < n - j
-one-less b = omega arith
-
 pub next-fits : {j n : ℕ} → j < n → n ≤ 109 → Fits w64 (j + 1)
 next-fits b h = omega arith
 
@@ -58,7 +52,7 @@ module _ (w : ℕ) (f : ℕ → List Float) (h : (j : ℕ) → length (f j) ≡ 
       let q : j ≡ n = omega arith in
       (rw q at e') ∙ whole (n * w) (cat n f) l e
 
-  -- a stretch not yet written is as it was
+  -- a stretch that no turn has written is as it was
   pub row-lent : (j i : ℕ) (d : Float) (l m : List Float) → i < w → m ≡ cat j f ++ drop (j * w) l → getD (lentOf w j m) i d ≡ getD l (j * w + i) d
   row-lent j i d l m b e =
       getD-take (j * w + w - j * w) (drop (j * w) m) i d (omega arith)

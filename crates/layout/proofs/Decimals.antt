@@ -5,4 +5,4 @@ use Rattle.layout.specs.Constants.{Decimals}
 
 pub decimals : Decimals
 unfolding ofBits ofInt div round
-decimals = record { is-0·3 = refl; is-1 = refl; is-2 = refl; is-2·5 = refl; is-8 = refl; is-16 = refl; is-32 = refl; is-40 = refl; is-48 = refl; is-80 = refl; is-0·15 = refl; is-4/3 = refl; is-π = refl }
+decimals = record { is-0·3 = refl; is-1 = refl; is-2 = refl; is-2·5 = refl; is-8 = refl; is-16 = refl; is-32 = refl; is-40 = refl; is-48 = refl; is-80 = refl; is-0·15 = refl; is-4/3 = refl }

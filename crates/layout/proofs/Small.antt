@@ -1,14 +1,7 @@
--- Counts are small: floats hold them, and products of them fit. Assumes nothing.
+-- Counts are small, and so are their products. Assumes nothing.
 use Prim.Native.Nat.{ℕ, _+_, _*_, _^_, _≤_, _<_}
 use native.Mathlib.Nat.{mul-le-mul}
 use native.Mathlib.Omega.{arith}
-use lib.Dec.{T, le→leb}
-use lib.IntN.{pos}
-use lib.Ieee.{Format, prec, inFloat}
-
-pub exact : (f : Format) (n : ℕ) → n ≤ 2 ^ prec f → T (inFloat f (pos n))
-unfolding inFloat
-exact f n h = le→leb n (2 ^ prec f) h
 
 -- a carrier's number squared
 pub square : (c nc : ℕ) → c < nc → nc ≤ 109 → c * c ≤ 108 * 108

@@ -1,5 +1,4 @@
 -- The float constants, as the code's literals have them, and the decimals that they are (proofs/Decimals.antt).
-use Prim.Native.Nat.{_^_}
 use mathlib.Core.Path.{_≡_}
 use mathlib.Core.Bool.{false}
 use lib.Ieee.{Float, binary32, binary64, ofBits, round}
@@ -42,10 +41,6 @@ lg0·15 = ofBits binary32 0x3e19_999a
 abbrev pub pilotAmp : Float
 pilotAmp = ofBits binary32 0x3faa_aaab
 
--- core::f64::consts::PI
-abbrev pub pi : Float
-pi = ofBits binary64 0x4009_21fb_5444_2d18
-
 pub record Decimals : Type 0 where
   pub is-0·3 : d0·3 ≡ round binary64 false 3 10
   pub is-1 : d1 ≡ round binary64 false 1 1
@@ -59,4 +54,3 @@ pub record Decimals : Type 0 where
   pub is-80 : d80 ≡ round binary64 false 80 1
   pub is-0·15 : lg0·15 ≡ round binary32 false 15 100
   pub is-4/3 : pilotAmp ≡ f32Of 4 ⧄ f32Of 3
-  pub is-π : pi ≡ round binary64 false 314159265358979323846264338327950288 (10 ^ 35)

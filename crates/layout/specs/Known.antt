@@ -7,11 +7,12 @@ use lib.Ieee.{Float, binary32, neg}
 use Rattle.ieee.specs.Num.{_⊗_, _⊘_, _⊞_, _⊠_, _⧄_, zero32, f32Of, f64Of}
 use Rattle.ieee.specs.Narrow.{narrowed}
 use Rattle.ieee.specs.Root.{rooted}
+use Rattle.elementary.specs.Constants.{pi}
 use Rattle.elementary.specs.Circular.{sinAt, cosAt}
 use Rattle.dsp.specs.declared.Complex.{Complex}
 use Rattle.dsp.specs.Arithmetic.{complex, scaleᶜ}
 use Rattle.bits.specs.Mix.{mixOf}
-use Rattle.layout.specs.Constants.{pilotAmp, pi}
+use Rattle.layout.specs.Constants.{pilotAmp}
 use Rattle.layout.specs.declared.map.Map.{Map}
 use Rattle.layout.specs.Patterns.{pilotsOf}
 

@@ -45,12 +45,6 @@ count-fits b h = omega arith
 pub turn-fits : {i n : ℕ} → i < n → n ≤ 1084 → Fits w64 (i + 1)
 turn-fits b h = omega arith
 
-pub turn-more : {i n : ℕ} → i < n → i + 1 ≤ n
-turn-more b = omega arith
-
-pub turn-less : {i n : ℕ} → i < n → n - (i + 1) < n - i
-turn-less b = omega arith
-
 pub turn-word : {i n : ℕ} → i < n → n ≤ 1084 → i < 2 ^ 32
 turn-word b h = omega arith
 

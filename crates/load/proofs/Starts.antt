@@ -9,12 +9,16 @@ use lib.Ieee.{Float}
 use Rattle.seq.specs.Cat.{cat}
 use Rattle.seq.specs.Cat.Laws.{stretch, length-cat-le, cat-next, cat-order, place, cat-for}
 use Rattle.seq.specs.Loop.Laws.{for-none, for-next}
+use Rattle.seq.specs.Tab.Laws.{length-tab}
 use Rattle.dsp.specs.declared.Complex.{Complex}
 use Rattle.load.specs.declared.pilot.Pilot.{Pilot}
 use Rattle.load.specs.declared.found.Found.{Found}
+use Rattle.load.specs.declared.found.Source.{Source}
 use Rattle.load.specs.declared.found.Found.the-variants.{Known, Soft, Blank}
 use Rattle.load.specs.Load.{sampleAt, pilotOf, pushed, nothing, loadedAt, loadedRow, loaded, startOf}
 use Rattle.load.specs.Laws.{Sits}
+use Rattle.load.specs.Fit.{places}
+use Rattle.load.specs.Work.{Loads}
 
 -- a list and the parts that a loop appends to it: none yet, one more
 pub none-more : {A : Type 0} (f : ℕ → List A) (l : List A) → l ≡ l ++ cat 0 f
@@ -86,3 +90,7 @@ module _ (nc : ℕ) (grid : List Float) (value : ℕ → ℕ → Found) where
       let q = place (loadedAt nc grid value (p .k)) nothing nc (p .t) (p .element) in
       let a = at-place (q .k) (p .k) (sampleAt grid (p .k * nc + q .k)) (value (q .k) (p .k)) (q .t) (q .element) in
       rw (p .same, q .same) (record { carrier = rw (a .carrier) (q .part); symbol = rw (a .symbol) (p .part); from = rw (a .symbol) (p .from); upto = rw (a .symbol) (p .upto) })
+
+-- no more pilots than places
+pub few-loaded : (s : Source) (grid : List Float) (v : ℕ → ℕ → Found) (w : List ℕ) (pf : List Float) (np : ℕ) → Loads s grid v w pf np → np ≤ places s
+few-loaded s grid v w pf np l = omega (arith, sym (length-tab _ np) ∙ ap length (l .same), length-loaded (s .map .nc) grid v (s .ng))

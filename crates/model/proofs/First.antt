@@ -1,29 +1,25 @@
 -- The model that `select_model` answers is the first with the smallest residual; its indices and its scale are in range.
 use Prim.Native.Nat.{ℕ, zero, suc, _/_, _%_, _<_}
 use mathlib.Core.Path.{_≡_, refl, sym, ap, subst, _∙_}
-use mathlib.Core.Bool.{Bool, true, false, not, cond}
+use mathlib.Core.Bool.{Bool, true, false, cond}
 use mathlib.Core.Logic.{_⊎_, inl, inr}
 use mathlib.Core.List.{List}
 use native.Mathlib.Nat.{eq-or-lt-of-le, le-of-suc-le-suc}
 use native.Mathlib.Numerals.{add-one}
 use native.Mathlib.Omega.{arith}
-use lib.Dec.{T}
 use lib.Ieee.{Float, lt, le}
+use lib.Ieee.Bits.{is-false}
 use Rattle.seq.specs.Loop.{for}
 use Rattle.seq.specs.Loop.Laws.{for-none, for-next}
 use Rattle.ieee.specs.Num.{one32}
 use Rattle.ieee.proofs.Orders.{not-below-itself}
+use Rattle.ieee.proofs.Transitive.{not-as-small, not-smaller}
 use Rattle.load.specs.declared.pilot.Pilot.{Pilot}
 use Rattle.model.specs.Select.{model, best, none, scaleOf, better, tried, next, selectModel}
 use Rattle.model.specs.Laws.{OfGrid, Chosen, Fallback, FirstLeast, InRange}
 use Rattle.model.specs.declared.trial.Setting.{Setting}
 use Rattle.model.specs.declared.select.Best.{Best}
-use Rattle.model.proofs.Below.{not-as-small, not-smaller}
 use Rattle.model.proofs.Ranges.{scale-range}
-
-not-true : (b : Bool) → T (not b) → b ≡ false
-not-true true h = absurd h
-not-true false h = refl
 
 module _ (s : Setting) (ps : List Pilot) (start : List ℕ) where
   abbrev r : ℕ → Float
@@ -57,7 +53,7 @@ module _ (s : Setting) (ps : List Pilot) (start : List ℕ) where
       go true e =
           let first : (u : ℕ) → u < n → le (r u) (r n) ≡ false = λ u l. not-as-small (r u) (r n) (b .r) e (h .least u l) in
           record {
-            least = upto (λ u. lt (r u) (r n) ≡ false) (not-true (lt (r n) (r n)) (not-below-itself (r n))) (λ u l. not-smaller (r u) (r n) (first u l));
+            least = upto (λ u. lt (r u) (r n) ≡ false) (is-false (lt (r n) (r n)) (not-below-itself (r n))) (λ u l. not-smaller (r u) (r n) (first u l));
             whose = inl (n, record { below = omega arith; is = refl; first = first });
           }
       go false e = record { least = upto (λ u. lt (r u) (b .r) ≡ false) e (h .least); whose = later (h .whose) }

@@ -3,6 +3,5 @@ pub mod Decimals
 pub mod Strides
 pub mod Models
 pub mod Trials
-pub mod Below
 pub mod Ranges
 pub mod First

@@ -1,5 +1,5 @@
 -- est.rs, `select_model`, its inner loop line by line: how well a model estimates the pilots from each other.
-use Prim.Native.Nat.{ℕ, _+_, _-_, _*_, _/_, _≤_, _<_, max}
+use Prim.Native.Nat.{ℕ, _+_, _-_, _*_, _/_, _≤_, max}
 use mathlib.Core.List.{List}
 use lib.ListN.{length}
 use lib.Ieee.{Float}

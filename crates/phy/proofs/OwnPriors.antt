@@ -13,7 +13,7 @@ use Rattle.phy.specs.declared.refinement.Refinement.the-variants.{Accept
 use Rattle.phy.specs.Independence.{Shared, Accepts, Independence}
 use Rattle.table.proofs.Passing.{accepted-fits}
 
-same-burst : (b b′ : Burst) → Shared b b′ → b ≡ b′
+pub same-burst : (b b′ : Burst) → Shared b b′ → b ≡ b′
 same-burst b b′ s = parts (s .settings) (s .grid) (s .sigma) (s .cells)
   where
     parts : {s s′ : Settings} {g g′ m m′ c c′ : List Float} → s ≡ s′ → g ≡ g′ → m ≡ m′ → c ≡ c′ → burst s g m c ≡ burst s′ g′ m′ c′

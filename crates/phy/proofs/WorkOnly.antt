@@ -1,6 +1,6 @@
 -- The table where the work area is all that is lent, and what is known of a call that it passes. Assumes nothing.
 use Prim.Native.Nat.{ℕ, _*_, _^_, _-_, _≤_}
-use mathlib.Core.Path.{_≡_, refl, sym, ap, _∙_}
+use mathlib.Core.Path.{_≡_, refl, ap, _∙_}
 use mathlib.Core.Bool.{Bool, true, false}
 use mathlib.Core.List.{List}
 use native.Mathlib.Omega.{arith}

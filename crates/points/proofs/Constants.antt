@@ -5,4 +5,4 @@ use Rattle.points.specs.Laws.{Constants}
 
 pub constants : Constants
 unfolding ofBits round
-constants = record { root2 = refl; pi4 = refl; pi = refl; one = refl; two = refl; three = refl; eight = refl }
+constants = record { root2 = refl; pi4 = refl; one = refl; two = refl; three = refl; eight = refl }

@@ -5,9 +5,7 @@ use mathlib.Core.Bool.{Bool}
 use native.Mathlib.Nat.{one-mul, lt-of-lt-of-le, mul-le-mul}
 use native.Mathlib.Omega.{arith}
 use lib.Bits.{xor-lt, or-lt}
-use lib.Dec.{T, ltb, ltb→lt, le→leb}
-use lib.IntN.{pos}
-use lib.Ieee.{Format, prec, inFloat}
+use lib.Dec.{ltb, ltb→lt}
 use lib.ListN.{getD}
 use lib.Pow.{pow-mono, shl-exact, shl-lt}
 use Rattle.points.specs.Constellation.{labels, grayOf, labelOf}
@@ -22,11 +20,6 @@ at-most-64 b h = pow-mono {j = 6} h
 
 pub at-most-8 : (b : ℕ) → b ≤ 3 → 2 ^ b ≤ 8
 at-most-8 b h = pow-mono {j = 3} h
-
--- a number that f counts without a gap
-pub counted : (f : Format) (n : ℕ) → n ≤ 2 ^ prec f → T (inFloat f (pos n))
-unfolding inFloat
-counted f n h = le→leb n (2 ^ prec f) h
 
 pub gray-below : (b i : ℕ) → i < 2 ^ b → grayOf i < 2 ^ b
 unfolding grayOf

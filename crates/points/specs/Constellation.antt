@@ -8,6 +8,7 @@ use Rattle.seq.specs.Loop.{for}
 use Rattle.ieee.specs.Num.{_⊕_, _⊗_, _⊘_, _⊟_, _⊠_, _⧄_, one32, f32Of, f64Of}
 use Rattle.ieee.specs.Narrow.{narrowed}
 use Rattle.ieee.specs.Root.{rooted}
+use Rattle.elementary.specs.Constants.{pi}
 use Rattle.elementary.specs.Circular.{sinAt, cosAt}
 use Rattle.dsp.specs.declared.Complex.{Complex}
 use Rattle.dsp.specs.Arithmetic.{complex}
@@ -23,15 +24,12 @@ three32 = ofBits binary32 0x4040_0000
 abbrev pub eight64 : Float
 eight64 = ofBits binary64 0x4020_0000_0000_0000
 
--- FRAC_1_SQRT_2, FRAC_PI_4, PI
+-- FRAC_1_SQRT_2, FRAC_PI_4
 abbrev pub fracRoot2 : Float
 fracRoot2 = ofBits binary32 0x3f35_04f3
 
 abbrev pub fracPi4 : Float
 fracPi4 = ofBits binary64 0x3fe9_21fb_5444_2d18
-
-abbrev pub π : Float
-π = ofBits binary64 0x4009_21fb_5444_2d18
 
 -- ---- qpsk
 
@@ -59,7 +57,7 @@ labels = 0 ∷ 1 ∷ 3 ∷ 2 ∷ 6 ∷ 7 ∷ 5 ∷ 4 ∷ []
 
 -- FRAC_PI_4 * m as f64 + PI / 8.0
 unfoldable pub angle : ℕ → Float
-angle m = fracPi4 ⊗ f64Of m ⊕ π ⊘ eight64
+angle m = fracPi4 ⊗ f64Of m ⊕ pi ⊘ eight64
 
 -- Complex::new(a.cos() as f32, a.sin() as f32)
 unfoldable pub circlePoint : ℕ → Complex

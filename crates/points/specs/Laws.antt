@@ -10,7 +10,7 @@ use Rattle.ieee.specs.Num.{one32}
 use Rattle.ieee.specs.Order.{isFinite}
 use Rattle.dsp.specs.Arithmetic.{scaleᶜ}
 use Rattle.points.specs.Table.{pointAt}
-use Rattle.points.specs.Constellation.{two32, three32, eight64, fracRoot2, fracPi4, π, bpsOf, pointsOf}
+use Rattle.points.specs.Constellation.{two32, three32, eight64, fracRoot2, fracPi4, bpsOf, pointsOf}
 use Rattle.points.specs.Power.{scaledOf}
 
 -- two to six bits, so at most 64 points, in a table of 128 numbers, each of which is finite
@@ -31,7 +31,6 @@ pub record ScaledLaws (pts : List Float) (gain : Float) : Type 0 where
 pub record Constants : Type 0 where
   pub root2 : fracRoot2 ≡ round binary32 false 707106781186547524400844362104849039 (10 ^ 36)
   pub pi4 : fracPi4 ≡ round binary64 false 785398163397448309615660845819875721 (10 ^ 36)
-  pub pi : π ≡ round binary64 false 314159265358979323846264338327950288 (10 ^ 35)
   pub one : one32 ≡ round binary32 false 1 1
   pub two : two32 ≡ round binary32 false 2 1
   pub three : three32 ≡ round binary32 false 3 1

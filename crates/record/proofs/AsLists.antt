@@ -20,7 +20,8 @@ use Rattle.record.specs.Refusals.{refusalIn}
 use Rattle.record.specs.Table.{AsLists}
 use Rattle.wire.proofs.Digits.{six-bytes}
 use Rattle.wire.proofs.RoundTrip.{round-trip}
-use Rattle.record.proofs.Written.{length-word, length-numbers}
+use Rattle.words.proofs.Stored.{length-word}
+use Rattle.record.proofs.Written.{length-numbers}
 
 -- ---- the bytes of a burst laid out
 

@@ -1,5 +1,5 @@
 -- A record is given the number of the first row that turns it away. Assumes nothing.
-use Prim.Native.Nat.{ℕ, zero, suc, _+_, _*_, _<_}
+use Prim.Native.Nat.{ℕ, zero, suc, _+_, _*_}
 use mathlib.Core.Path.{_≡_, refl, sym, _∙_}
 use mathlib.Core.Bool.{Bool, true, false, not, cond}
 use mathlib.Core.List.{List, [], _∷_}
@@ -13,6 +13,7 @@ use Rattle.table.specs.Sizes.{ncOf, ncellOf, gridCells}
 use Rattle.table.specs.Rows.{badLayout, badCodes, badSymbols, badGrid, badVariances, badNumbers}
 use Rattle.table.specs.Refusals.{refusalOf}
 use Rattle.table.specs.Table.{First}
+use Rattle.table.proofs.Exact.{first-none, next, rest}
 use Rattle.scan.proofs.Tests.{true-false}
 use Rattle.wire.specs.Record.{fields, fieldsOf, settings, settingsOf, burstOf, priorOf}
 use Rattle.wire.specs.Shape.{badRecord, badLength, shapeRefusal}
@@ -32,19 +33,6 @@ Numbered [] ns = Unit
 Numbered (t ∷ ts) [] = ⊥
 Numbered (t ∷ ts) (zero ∷ ns) = ⊥
 Numbered (t ∷ ts) (suc n ∷ ns) = Numbered ts ns
-
-first-none : {k : ℕ} → First [] k → ⊥
-first-none f = true-false (sym (f .here))
-
-next : {ts : List Bool} {k : ℕ} → First ts k → First (false ∷ ts) (suc k)
-next {ts} {k} f = record { here = f .here; above = before }
-  where
-    before : (i : ℕ) → i < suc k → getD (false ∷ ts) i false ≡ false
-    before zero h = refl
-    before (suc i) h = f .above i (omega arith)
-
-rest : {ts : List Bool} {k : ℕ} → First (false ∷ ts) (suc k) → First ts k
-rest f = record { here = f .here; above = λ i h. f .above (suc i) (omega arith) }
 
 first-of : (ts : List Bool) (ns : List ℕ) (n : ℕ) → given ts ns ≡ n + 1 → (k : ℕ) × First ts k × (getD ns k 0 ≡ n + 1)
 first-of [] ns n e = absurd (omega arith)

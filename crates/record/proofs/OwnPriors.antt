@@ -16,11 +16,10 @@ use Rattle.model.specs.Laws.{FirstLeast, Chosen, Fallback}
 use Rattle.model.specs.declared.trial.Setting.{Setting}
 use Rattle.model.specs.declared.select.Model.{Model}
 use Rattle.model.proofs.First.{first-least}
-use Rattle.refine.specs.declared.settings.Settings.{Settings}
-use Rattle.refine.specs.Refine.{Burst, burst, nsym, ncell, nbits, setting, pilots, starts, model, refinedOf, answerOf, channelOf}
+use Rattle.refine.specs.Refine.{Burst, nsym, ncell, nbits, setting, pilots, starts, model, refinedOf, answerOf, channelOf}
 use Rattle.refine.specs.Independence.{OwnBit, SameCell}
 use Rattle.refine.proofs.Independence.{cell-same}
-use Rattle.phy.specs.Independence.{Shared}
+use Rattle.phy.proofs.OwnPriors.{same-burst}
 use Rattle.words.specs.Bytes.{word, number}
 use Rattle.wire.specs.Record.{burstOf, priorOf}
 use Rattle.wire.specs.Bytes.{reportBytes}
@@ -67,12 +66,6 @@ model-same b b′ p q h =
     (same-word (toBits binary32 x) (toBits binary32 y) (h 2 (omega arith)) (h 3 (omega arith)) (h 4 (omega arith)) (h 5 (omega arith))))
 
 -- ---- two calls
-
-same-burst : (b b′ : Burst) → Shared b b′ → b ≡ b′
-same-burst b b′ s = parts (s .settings) (s .grid) (s .sigma) (s .cells)
-  where
-    parts : {s s′ : Settings} {g g′ m m′ c c′ : List Float} → s ≡ s′ → g ≡ g′ → m ≡ m′ → c ≡ c′ → burst s g m c ≡ burst s′ g′ m′ c′
-    parts es eg em ec = cc
 
 module _ (rec rec′ : List ℕ) (j : ℕ) (o : OwnPriors rec rec′ j) (known : nsym (burstOf rec) ≤ 1023) (out old out′ old′ : List ℕ)
     (e : out ≡ answerBytes rec ++ old) (e′ : out′ ≡ answerBytes rec′ ++ old′) (same : (t : ℕ) → t < 6 → getD out (0 + t) 0 ≡ getD out′ (0 + t) 0) where

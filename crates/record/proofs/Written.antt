@@ -9,19 +9,16 @@ use lib.Seq.{getD-append-add}
 use lib.Ieee.{Float, nan, binary32, fits, ofBits, toBits}
 use lib.Ieee.Bits.{ofBits-toBits}
 use Rattle.seq.specs.Cat.Laws.{length-cat, getD-cat}
-use Rattle.refine.specs.declared.whole.Refined.{Refined}
 use Rattle.refine.specs.Refine.{ncell, nbits, refinedOf, answerOf, channelOf}
-use Rattle.words.specs.Bytes.{word, number}
+use Rattle.words.specs.Bytes.{number}
+use Rattle.words.proofs.Stored.{length-word}
 use Rattle.wire.specs.Record.{burstOf, priorOf}
 use Rattle.wire.specs.Bytes.{numberBytes, reportBytes}
 use Rattle.record.specs.Answer.{answerBytes, channelBytes}
 use Rattle.wire.proofs.Digits.{four-bytes}
+use Rattle.wire.proofs.Stored.{length-report}
 
 -- ---- a number
-
-pub length-word : (x : ℕ) → length (word x) ≡ 4
-unfolding word
-length-word x = refl
 
 pub same-word : (x y : ℕ) → x / 2 ^ 24 ≡ y / 2 ^ 24 → x / 2 ^ 16 % 2 ^ 8 ≡ y / 2 ^ 16 % 2 ^ 8 → x / 2 ^ 8 % 2 ^ 8 ≡ y / 2 ^ 8 % 2 ^ 8 → x % 2 ^ 8 ≡ y % 2 ^ 8 → x ≡ y
 same-word x y a b c d = sym (four-bytes x) ∙ (rw (a, b, c, d) refl ∙ four-bytes y)
@@ -42,10 +39,6 @@ module _ (n : ℕ) (xs : List Float) where
       ∙ getD-cat 4 (λ k. number (getD xs k nan)) 0 (λ k. length-word (toBits binary32 (getD xs k nan))) n i t h h'
 
 -- ---- an answer, and the estimates beside it
-
-length-report : (r : Refined) → length (reportBytes r) ≡ 10
-unfolding reportBytes word
-length-report r = refl
 
 module _ (rec : List ℕ) (out old : List ℕ) where
   abbrev report : List ℕ

@@ -11,7 +11,6 @@ use lib.Ieee.{Float}
 use Rattle.spread.specs.Spreader.{twiddlesOf}
 use Rattle.load.specs.declared.pilot.Pilot.{Pilot}
 use Rattle.load.specs.declared.found.Source.{Source}
-use Rattle.load.specs.Fit.{ncell}
 use Rattle.expect.specs.declared.Shape.{Shape}
 use Rattle.judge.specs.declared.estimates.Fitted.{Fitted}
 use Rattle.judge.specs.Fit.{Judgeable}

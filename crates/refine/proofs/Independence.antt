@@ -22,7 +22,7 @@ use Rattle.demap.specs.Demap.{likelihoods}
 use Rattle.judge.specs.Cells.{symbolOf, carrierOf, sampleOf, numbersOf}
 use Rattle.judge.specs.Judge.{demapped, judged}
 use Rattle.refine.specs.declared.whole.Refined.{Refined}
-use Rattle.refine.specs.Refine.{Burst, layout, nsym, ng, bps, unit, ncell, nbits, shape, source, expected, found, model, estimate, channelOf, slotLikelihoods, answerOf, refinedOf, Refines}
+use Rattle.refine.specs.Refine.{Burst, layout, nsym, ng, bps, unit, ncell, nbits, source, expected, found, model, estimate, channelOf, slotLikelihoods, answerOf, refinedOf, Refines}
 use Rattle.refine.specs.Independence.{OwnBit, SameBut, SameCell, Independence}
 use Rattle.refine.proofs.Blanked.{blank-same}
 use Rattle.refine.proofs.OwnPriors.{expected-else}

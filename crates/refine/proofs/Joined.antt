@@ -1,6 +1,6 @@
 -- The steps of the path, joined, are the definition. Assumes nothing.
-use Prim.Native.Nat.{ℕ, _+_, _*_, _/_, _≤_}
-use mathlib.Core.Path.{_≡_, refl, sym, ap, _∙_}
+use Prim.Native.Nat.{ℕ, _+_, _*_, _≤_}
+use mathlib.Core.Path.{_≡_, refl, ap, _∙_}
 use mathlib.Core.Bool.{Bool, true, false}
 use mathlib.Core.List.{List, _++_}
 use native.Mathlib.Omega.{arith}
@@ -9,17 +9,14 @@ use lib.Seq.{take-take}
 use lib.Ieee.{Float}
 use Rattle.seq.specs.Cat.{cat}
 use Rattle.seq.specs.Cat.Laws.{cat-same}
-use Rattle.seq.specs.Tab.Laws.{length-tab}
 use Rattle.bits.specs.Slots.{bitOrder}
 use Rattle.layout.specs.Maps.{mapOf}
-use Rattle.load.specs.declared.pilot.Pilot.{Pilot}
 use Rattle.load.specs.declared.found.Source.{Source}
 use Rattle.load.specs.declared.found.Found.{Found}
-use Rattle.load.specs.Find.{foundAt}
 use Rattle.load.specs.Fit.{places}
 use Rattle.load.specs.Load.{loaded}
 use Rattle.load.specs.Work.{Loads}
-use Rattle.load.proofs.Starts.{length-loaded}
+use Rattle.load.proofs.Starts.{few-loaded}
 use Rattle.est.specs.declared.combine.Estimate.{Estimate}
 use Rattle.model.specs.declared.select.Model.{Model}
 use Rattle.model.specs.Select.{selectModel}
@@ -36,9 +33,6 @@ use Rattle.refine.proofs.Exact.{exact}
 use Rattle.refine.proofs.Ready.{ready, agrees, symbols}
 
 -- ---- the pilots in the work lists
-
-few-loaded : (s : Source) (grid : List Float) (v : ℕ → ℕ → Found) (w : List ℕ) (pf : List Float) (np : ℕ) → Loads s grid v w pf np → np ≤ places s
-few-loaded s grid v w pf np l = omega (arith, sym (length-tab _ np) ∙ ap length (l .same), length-loaded (s .map .nc) grid v (s .ng))
 
 pub in-work : (p : Plan) (grid : List Float) (v : ℕ → ℕ → Found) (wf : List Float) (wu : List ℕ) (np : ℕ) → Loads (p .source) grid v wu (take (3 * places (p .source)) wf) np
     → places (p .source) ≤ 118156 → 3 * places (p .source) + cellLength p ≤ length wf → 2 * places (p .source) + p .source .ng + 1 ≤ length wu → InWork p np wf wu

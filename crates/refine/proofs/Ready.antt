@@ -1,8 +1,8 @@
 -- A burst whose lists fit is one that every step of the path takes. Assumes nothing.
-use Prim.Native.Nat.{ℕ, zero, suc, _+_, _-_, _*_, _≤_, _<_, min, max}
+use Prim.Native.Nat.{ℕ, _-_, _*_, _≤_, _<_}
 use mathlib.Core.Path.{_≡_, refl, _∙_}
 use mathlib.Core.List.{List}
-use native.Mathlib.Nat.{mul-le-mul, mul-comm}
+use native.Mathlib.Nat.{mul-le-mul}
 use native.Mathlib.Omega.{arith}
 use lib.ListN.{length, take, drop, length-drop}
 use lib.Seq.{length-take-le}
@@ -10,7 +10,7 @@ use lib.Ieee.{Float}
 use Rattle.bits.specs.Slots.{longest}
 use Rattle.layout.specs.Layouts.{layoutOf}
 use Rattle.layout.specs.Maps.{mapOf}
-use Rattle.layout.specs.Sizes.{LayoutBounds, BurstBounds, preSyms, dataCarriersOf, ngOf, ncellOf, nbitsOf}
+use Rattle.layout.specs.Sizes.{LayoutBounds, BurstBounds, preSyms, dataCarriersOf, ncellOf, nbitsOf}
 use Rattle.points.specs.Constellation.{bpsOf}
 use Rattle.layout.proofs.Bounds.{bounds}
 use Rattle.points.proofs.Laws.{points-laws}
@@ -18,7 +18,6 @@ use Rattle.load.specs.Fit.{FitSource, places}
 use Rattle.load.proofs.Sources.{source-fits}
 use Rattle.est.specs.Estimate.{heldK}
 use Rattle.model.proofs.Models.{models-fit}
-use Rattle.judge.specs.Fit.{FitCells}
 use Rattle.refine.specs.Refine.{Burst, layout, nsym, ng, dc, bps, ncell, nbits, Fit}
 use Rattle.refine.specs.declared.settings.Settings.{Settings}
 use Rattle.refine.specs.Plan.{planFor}
@@ -34,6 +33,9 @@ fewer : (b : Burst) → dc b ≤ layout b .nc
 unfolding dataCarriersOf
 fewer b = omega arith
 
+pub cells-places : (b : Burst) → ncell b ≤ ng b * layout b .nc
+cells-places b = mul-le-mul {n₁ = nsym b} {n₂ = ng b} (omega arith) (fewer b)
+
 module _ (b : Burst) (answer channel wf : List Float) (wu : List ℕ) (x : ExactFit b answer channel wf wu) where
   f : Fit b answer channel wf wu
   f = x .fit
@@ -48,9 +50,6 @@ module _ (b : Burst) (answer channel wf : List Float) (wu : List ℕ) (x : Exact
 
   few-places : ng b * layout b .nc ≤ 118156
   few-places = mul-le-mul (of-burst .ng-high) (of-layout .nc-high)
-
-  cells-places : ncell b ≤ ng b * layout b .nc
-  cells-places = mul-le-mul {n₁ = nsym b} {n₂ = ng b} (omega arith) (fewer b)
 
   symbols-places : ng b ≤ ng b * layout b .nc
   symbols-places = omega (arith, mul-le-mul {n₁ = ng b} {m₁ = 5} {n₂ = ng b} {m₂ = layout b .nc} (omega arith) (of-layout .nc-low))
@@ -74,7 +73,7 @@ module _ (b : Burst) (answer channel wf : List Float) (wu : List ℕ) (x : Exact
         long-channel = omega (arith, x .whole-channel);
         source = source-ready;
         long-grid = omega (arith, f .long-grid);
-        in-wf = omega (arith, f .in-wf, cells-places);
+        in-wf = omega (arith, f .in-wf, cells-places b);
         in-wu = omega (arith, f .in-wu, symbols-places, of-burst .nbits-low);
       }
 

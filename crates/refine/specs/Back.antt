@@ -1,19 +1,15 @@
 -- The path as the code goes it: from the loaded pilots to the likelihoods in slot order.
 use Prim.Native.Nat.{ℕ, _+_, _*_, _≤_}
 use mathlib.Core.Path.{_≡_}
-use mathlib.Core.Bool.{true}
 use mathlib.Core.List.{List}
 use lib.ListN.{length}
 use lib.Ieee.{Float}
 use Rattle.load.specs.declared.pilot.Pilot.{Pilot}
 use Rattle.load.specs.declared.found.Source.{Source}
-use Rattle.load.specs.Pilots.{Loaded}
 use Rattle.load.specs.Fit.{ncell, places}
 use Rattle.expect.specs.declared.Shape.{Shape}
 use Rattle.model.specs.declared.select.Model.{Model}
 use Rattle.model.specs.Values.{FitModels}
-use Rattle.model.specs.Score.{Fit}
-use Rattle.model.specs.Select.{selectModel}
 use Rattle.judge.specs.Fit.{FitCells}
 use Rattle.judge.specs.Upto.{Upto}
 use Rattle.refine.specs.declared.settings.Plan.{Plan}

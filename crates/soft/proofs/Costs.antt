@@ -1,10 +1,11 @@
 -- What `softplus` asks of exp and ln_1p, that it is not below zero, and the two values of a bit. Assumes nothing.
 use Prim.Native.Nat.{_+_, _*_}
 use mathlib.Core.Path.{_≡_, refl, sym, ap, _∙_}
-use mathlib.Core.Bool.{Bool, true, false, not, cond}
+use mathlib.Core.Bool.{Bool, true, false, cond}
 use native.Mathlib.Omega.{arith}
 use lib.Dec.{T}
 use lib.Ieee.{Float, nan, inf, fin, up, down, neg, lt, ofBits, isNan}
+use lib.Ieee.Bits.{is-false}
 use borrow.Author.Tests.{ltb-true, lt-ltb}
 use Rattle.ieee.specs.Num.{_⊞_}
 use Rattle.ieee.proofs.Orders.{le-not-lt, lt-not-lt}
@@ -13,10 +14,6 @@ use Rattle.elementary.specs.Ln.{ln1pAt}
 use Rattle.elementary.proofs.Laws.{exp-laws, ln1p-laws}
 use Rattle.soft.specs.Soft.{softplusOf, costOf}
 use Rattle.soft.proofs.Signs.{nought, side, nan-side, add-side, neg-side}
-
-pub refused : (b : Bool) → T (not b) → b ≡ false
-refused true h = absurd h
-refused false h = refl
 
 -- a test that failed
 pub not-above : (x : Float) → lt nought x ≡ false → T (side true x)
@@ -57,7 +54,7 @@ module _ (x : Float) where
 
   pub softplus-not-above : T (side true x) → softplusOf x ≡ ln1pAt (expAt x)
   unfolding softplusOf ofBits
-  softplus-not-above h = rw (refused (lt nought x) h)
+  softplus-not-above h = rw (is-false (lt nought x) h)
 
 -- ---- the two values of a bit
 

@@ -8,6 +8,7 @@ use lib.Dec.{T}
 use lib.ListN.{getD, take}
 use lib.Seq.{getD-take}
 use lib.Ieee.{Float, nan, lt, le, isNan, neg, ofBits, round}
+use lib.Ieee.Bits.{is-false}
 use Rattle.seq.specs.Loop.Laws.{for-same}
 use Rattle.ieee.specs.Num.{_⊟_, zero32}
 use Rattle.ieee.specs.Order.{maxOf, clampOf}
@@ -17,7 +18,6 @@ use Rattle.dsp.specs.Arithmetic.{normSqr}
 use Rattle.points.specs.Table.{pointAt}
 use Rattle.soft.specs.Soft.{limit, priorAt, bitOf, costOf, bitTurn, logProbability, added, pointTurn, nothing, momentsOf, softOf, softPoint}
 use Rattle.soft.specs.Laws.{SoftLaws, Constants}
-use Rattle.soft.proofs.Costs.{refused}
 use Rattle.soft.proofs.Prefix.{log-side}
 
 module _ (llr llr' pts : List Float) (bps : ℕ) (same : (b : ℕ) → b < bps → getD llr b nan ≡ getD llr' b nan) where
@@ -41,7 +41,7 @@ zero-number = tt
 no-less : (x : Float) → T (le zero32 (maxOf x zero32))
 no-less x =
     let m = maxOf x zero32 in
-    not-lt-le m zero32 (max-laws .number x zero32 zero-number) zero-number (refused (lt m zero32) (max-laws .second x zero32))
+    not-lt-le m zero32 (max-laws .number x zero32 zero-number) zero-number (is-false (lt m zero32) (max-laws .second x zero32))
 
 not-above : (llr : List Float) (bps k : ℕ) → T (not (lt zero32 (logProbability llr bps k)))
 unfolding ofBits

@@ -28,17 +28,17 @@ at-least n (false ∷ ts) = further (at-least (suc n) ts)
     further (inl e) = inl e
     further (inr h) = inr (omega arith)
 
-first-none : {k : ℕ} → First [] k → ⊥
+pub first-none : {k : ℕ} → First [] k → ⊥
 first-none f = true-false (sym (f .here))
 
-next : {ts : List Bool} {k : ℕ} → First ts k → First (false ∷ ts) (suc k)
+pub next : {ts : List Bool} {k : ℕ} → First ts k → First (false ∷ ts) (suc k)
 next {ts} {k} f = record { here = f .here; above = before }
   where
     before : (i : ℕ) → i < suc k → getD (false ∷ ts) i false ≡ false
     before zero h = refl
     before (suc i) h = f .above i (omega arith)
 
-rest : {ts : List Bool} {k : ℕ} → First (false ∷ ts) (suc k) → First ts k
+pub rest : {ts : List Bool} {k : ℕ} → First (false ∷ ts) (suc k) → First ts k
 rest f = record { here = f .here; above = λ i h. f .above (suc i) (omega arith) }
 
 first-of : (n : ℕ) (ts : List Bool) (k : ℕ) → 1 ≤ n → numbered n ts ≡ n + k → First ts k

@@ -1,6 +1,6 @@
 -- Numbers laid out in bytes, and read again. Assumes nothing.
 use Prim.Native.Nat.{ℕ, zero, suc, _+_, _*_, _/_, _^_, _<_}
-use mathlib.Core.Path.{_≡_, refl, sym, ap, ap₂, _∙_}
+use mathlib.Core.Path.{_≡_, sym, ap, ap₂, _∙_}
 use mathlib.Core.Bool.{Bool}
 use mathlib.Core.List.{List, [], _∷_, _++_}
 use native.Mathlib.Omega.{arith}
@@ -16,6 +16,7 @@ use Rattle.seq.specs.Tab.{tab}
 use Rattle.seq.specs.Tab.Laws.{tab-only}
 use Rattle.scan.specs.Fine.{all}
 use Rattle.words.specs.Bytes.{wordAt, word, number}
+use Rattle.words.proofs.Stored.{length-word}
 use Rattle.wire.specs.Layout.{numbersLaid}
 use Rattle.wire.specs.Record.{numberAt}
 use Rattle.wire.proofs.Digits.{four-bytes}
@@ -61,10 +62,6 @@ pub laid-cons : (x : Float) (xs : List Float) → number x ++ numbersLaid xs ≡
 laid-cons x xs = ap (λ (l : List ℕ). l ++ numbersLaid xs) (sym (laid-one x)) ∙ laid-append (x ∷ []) xs
 
 -- ---- reading
-
-length-word : (x : ℕ) → length (word x) ≡ 4
-unfolding word
-length-word x = refl
 
 word-back : (bytes : List ℕ) (k x : ℕ) → ((t : ℕ) → t < 4 → getD bytes (k + t) 0 ≡ getD (word x) t 0) → wordAt bytes k ≡ x
 unfolding wordAt word

@@ -5,4 +5,4 @@ pub mod Shaped
 pub mod Digits
 pub mod Laid
 pub mod RoundTrip
-mod Stored
+pub mod Stored

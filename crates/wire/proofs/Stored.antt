@@ -7,11 +7,8 @@ use lib.ListN.{length, set, take, drop, length-append, length-set, length-drop, 
 use lib.Seq.{take-at, drop-at, take-all, drop-drop, length-take-le}
 use Rattle.refine.specs.declared.whole.Refined.{Refined}
 use Rattle.words.specs.Bytes.{word, number}
+use Rattle.words.proofs.Stored.{length-word}
 use Rattle.wire.specs.Bytes.{reportBytes}
-
-pub length-word : (x : ℕ) → length (word x) ≡ 4
-unfolding word
-length-word x = refl
 
 pub length-report : (r : Refined) → length (reportBytes r) ≡ 10
 unfolding reportBytes word

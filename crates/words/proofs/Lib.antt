@@ -1,1 +1,1 @@
-mod Stored
+pub mod Stored

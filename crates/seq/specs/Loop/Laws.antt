@@ -4,6 +4,16 @@ use mathlib.Core.Path.{_≡_, refl, sym, ap, _∙_}
 use native.Mathlib.Omega.{arith}
 use Rattle.seq.specs.Loop.{turns, for, back}
 
+-- ---- turn i of n: it leaves the index within, and fewer turns
+
+pub turn-more : {i n : ℕ} → i < n → i + 1 ≤ n
+turn-more b = omega arith
+
+pub turn-less : {i n : ℕ} → i < n → n - (i + 1) < n - i
+turn-less b = omega arith
+
+-- ---- the state
+
 module _ {S : Type 0} (f : ℕ → S → S) where
   -- before the first turn
   pub for-none : (a : ℕ) (s : S) → s ≡ for a a f s

@@ -1,7 +1,7 @@
 -- `symbol::spread_variance` rounds as the source does.
 use native.Mathlib.Omega.{arith}
 use borrow.Author.Needs.{needs}
-use Rattle.points.proofs.Counts.{counted}
+use Rattle.ieee.proofs.Floats.{counted}
 use Rattle.expect.specs.Expect.{spreadVariance}
 use Rattle.expect.proofs.symbol.spread_variance.Statement.{statement}
 use Rattle.expect.proofs.symbol.spread_variance.Tie as tie

@@ -1,25 +1,16 @@
 -- `ieee::root_parts32` meets its contract. Assumes nothing.
 use Prim.Native.Nat.{ℕ, _+_, _-_, _*_, _/_, _%_, _^_, _≤_, _<_}
-use native.Mathlib.Nat.{lt-of-le-of-lt, lt-of-lt-of-le, mul-le-mul, mul-le-mul-left, mul-le-mul-right, mul-pos}
+use native.Mathlib.Nat.{lt-of-le-of-lt, lt-of-lt-of-le, mul-le-mul, mul-le-mul-right, mul-pos}
 use native.Mathlib.Omega.{arith}
 use lib.Dec.{lit<}
 use lib.Pow.{pow-mono}
 use lib.Ieee.{binary32}
-use Rattle.ieee.proofs.Rooting.{root-pattern}
+use Rattle.ieee.proofs.Rooting.{root-pattern, some-doubled, doubled}
 use Rattle.ieee.proofs.root32.root_parts32.Statement.{statement}
 use Rattle.ieee.proofs.root32.root_parts32.Tie as tie
 
-twice : (m w : ℕ) → m * (1 + w % 2) ≤ m * 2
-twice m w = mul-le-mul-left m (at-most w)
-  where
-    at-most : (w : ℕ) → 1 + w % 2 ≤ 2
-    at-most w = omega arith
-
-some : (w : ℕ) → 0 < 1 + w % 2
-some w = omega arith
-
 product : (m w : ℕ) → m * (1 + w % 2) * 8388608 ≤ m * 2 * 8388608
-product m w = mul-le-mul-right 8388608 (twice m w)
+product m w = mul-le-mul-right 8388608 (doubled m w)
 
 under : (m n : ℕ) → n ≤ m * 2 * 8388608 → m < 2 ^ 24 → n < 2 ^ 48
 under m n h k = omega arith
@@ -37,16 +28,16 @@ fits : (k r : ℕ) → k ≤ 189 → r ≤ 2 ^ 24 → k * 8388608 + r < 2 ^ 32
 fits k r h l = omega arith
 
 mul-settle32 : tie.Need-mul-settle32
-mul-settle32 c = omega (arith, twice (c .before .args .m) (c .before .args .w))
+mul-settle32 c = omega (arith, doubled (c .before .args .m) (c .before .args .w))
 
 mul-settle32-2 : tie.Need-mul-settle32-2
-mul-settle32-2 c = omega (arith, twice (c .before .args .m) (c .before .args .w))
+mul-settle32-2 c = omega (arith, doubled (c .before .args .m) (c .before .args .w))
 
 settle32-requires : tie.Need-settle32-requires
 settle32-requires c κs =
     let m = c .before .args .m in
     let w = c .before .args .w in
-    (c .guess32 .ensures, (mul-pos (mul-pos (lt-of-lt-of-le (lit< tt) (c .before .pre .0 .0)) (some w)) (lit< tt), under m (m * (1 + w % 2) * 8388608) (product m w) (c .before .pre .0 .1)))
+    (c .guess32 .ensures, (mul-pos (mul-pos (lt-of-lt-of-le (lit< tt) (c .before .pre .0 .0)) (some-doubled w)) (lit< tt), under m (m * (1 + w % 2) * 8388608) (product m w) (c .before .pre .0 .1)))
 
 mul-result : tie.Need-mul-result
 mul-result c = omega arith

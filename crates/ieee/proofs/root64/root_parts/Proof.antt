@@ -1,22 +1,13 @@
 -- `ieee::root_parts` meets its contract. Assumes nothing.
 use Prim.Native.Nat.{ℕ, _+_, _-_, _*_, _/_, _%_, _^_, _≤_, _<_}
-use native.Mathlib.Nat.{lt-of-le-of-lt, lt-of-lt-of-le, mul-le-mul, mul-le-mul-left, mul-pos}
+use native.Mathlib.Nat.{lt-of-le-of-lt, lt-of-lt-of-le, mul-le-mul, mul-pos}
 use native.Mathlib.Omega.{arith}
 use lib.Dec.{lit<}
 use lib.Pow.{pow-mono}
 use lib.Ieee.{binary64}
-use Rattle.ieee.proofs.Rooting.{root-pattern}
+use Rattle.ieee.proofs.Rooting.{root-pattern, some-doubled, doubled}
 use Rattle.ieee.proofs.root64.root_parts.Statement.{statement}
 use Rattle.ieee.proofs.root64.root_parts.Tie as tie
-
-twice : (m w : ℕ) → m * (1 + w % 2) ≤ m * 2
-twice m w = mul-le-mul-left m (at-most w)
-  where
-    at-most : (w : ℕ) → 1 + w % 2 ≤ 2
-    at-most w = omega arith
-
-some : (w : ℕ) → 0 < 1 + w % 2
-some w = omega arith
 
 under : (m n : ℕ) → n ≤ m * 2 → m < 2 ^ 53 → n < 18014398509481984
 under m n h k = omega arith
@@ -31,13 +22,13 @@ add-settle : tie.Need-add-settle
 add-settle c = omega arith
 
 mul-settle : tie.Need-mul-settle
-mul-settle c = omega (arith, twice (c .before .args .m) (c .before .args .w))
+mul-settle c = omega (arith, doubled (c .before .args .m) (c .before .args .w))
 
 settle-requires : tie.Need-settle-requires
 settle-requires c κs =
     let m = c .before .args .m in
     let w = c .before .args .w in
-    (c .guess .ensures, (mul-pos (lt-of-lt-of-le (lit< tt) (c .before .pre .0 .0)) (some w), under m (m * (1 + w % 2)) (twice m w) (c .before .pre .0 .1)))
+    (c .guess .ensures, (mul-pos (lt-of-lt-of-le (lit< tt) (c .before .pre .0 .0)) (some-doubled w), under m (m * (1 + w % 2)) (doubled m w) (c .before .pre .0 .1)))
 
 mul-result : tie.Need-mul-result
 mul-result c = omega arith

@@ -4,13 +4,14 @@ use mathlib.Core.List.{_++_}
 use mathlib.Core.Path.{_≡_, refl, _∙_}
 use native.Mathlib.Omega.{arith}
 use lib.ListN.{length, drop}
+use Rattle.seq.specs.Loop.Laws.{turn-more, turn-less}
 use Rattle.seq.specs.Cat.Laws.{cat-none, lent}
 use Rattle.seq.specs.Cat.{cat}
 use Rattle.load.specs.Fit.{ncell}
 use Rattle.load.specs.Pilots.{pilots}
 use Rattle.load.specs.Find.{meanAt}
 use Rattle.judge.specs.Cells.{estimateFor, numbersOf}
-use Rattle.judge.proofs.Rows.{row-inside, one-more, one-less, next-fits, row-step, row-end, mean-lent}
+use Rattle.judge.proofs.Rows.{row-inside, next-fits, row-step, row-end, mean-lent}
 use Rattle.judge.proofs.Placed.{Lent, cell-lent, few-carriers, row-cell, few-cells}
 use Rattle.judge.proofs.estimates.estimate_row.Statement.{statement}
 use Rattle.judge.proofs.estimates.estimate_row.Tie as tie
@@ -75,7 +76,7 @@ add-j : tie.Need-add-j Inv-loop μ-loop
 add-j c = let i = c .before .before .before .before in next-fits (i .loop-test .taken) (few-carriers (begun (i .before) .args .s) (begun (i .before) .pre .0 .cells))
 
 loop-less : tie.Need-loop-less Inv-loop μ-loop
-loop-less c = one-less (c .before .before .before .before .loop-test .taken)
+loop-less c = turn-less (c .before .before .before .before .loop-test .taken)
 
 loop-again : tie.Need-loop-again Inv-loop μ-loop
 loop-again c =
@@ -84,7 +85,7 @@ loop-again c =
     let b = begun l in
     let x = mean-lent _ (λ k. refl) (l .loop .j) (b .args .row .now) (l .loop .row) (l .loop .inv .2) in
     let r = row-step 3 _ (λ k. refl) (l .loop .j) (b .args .row .now) (l .loop .row) _ (l .loop .inv .2) (rw x at (d .estimate-cell .ensures)) in
-    (one-more (d .before .before .loop-test .taken), c .before .row .given .1 ∙ l .loop .inv .1, r)
+    (turn-more (d .before .before .loop-test .taken), c .before .row .given .1 ∙ l .loop .inv .1, r)
 
 same-length : tie.Need-same-length Inv-loop μ-loop
 same-length c = c .before .loop .inv .1

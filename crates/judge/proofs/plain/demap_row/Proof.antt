@@ -5,12 +5,13 @@ use mathlib.Core.Path.{_≡_, refl, _∙_}
 use native.Mathlib.Omega.{arith}
 use lib.ListN.{length, drop}
 use borrow.Author.Needs.{needs}
+use Rattle.seq.specs.Loop.Laws.{turn-more, turn-less}
 use Rattle.seq.specs.Cat.Laws.{cat-none, lent}
 use Rattle.seq.specs.Cat.{cat}
 use Rattle.load.specs.Fit.{ncell}
 use Rattle.judge.specs.Cells.{estimateIn}
 use Rattle.judge.specs.Judge.{demapped}
-use Rattle.judge.proofs.Rows.{row-inside, one-more, one-less, next-fits, row-step, row-end}
+use Rattle.judge.proofs.Rows.{row-inside, next-fits, row-step, row-end}
 use Rattle.judge.proofs.Laws.{length-demapped}
 use Rattle.judge.proofs.Placed.{Lent, cell-lent, few-carriers, row-cell, few-cells}
 use Rattle.judge.proofs.plain.demap_row.Statement.{statement}
@@ -81,7 +82,7 @@ add-j : tie.Need-add-j Inv-loop μ-loop
 add-j c = let i = c .before .before .before .before .before in next-fits (i .loop-test .taken) (few-carriers (start (i .before) .args .s) (start (i .before) .pre .0))
 
 loop-less : tie.Need-loop-less Inv-loop μ-loop
-loop-less c = one-less (c .before .before .before .before .before .loop-test .taken)
+loop-less c = turn-less (c .before .before .before .before .before .loop-test .taken)
 
 loop-again : tie.Need-loop-again Inv-loop μ-loop
 loop-again c =
@@ -89,7 +90,7 @@ loop-again c =
     let l = d .before .before .before .before in
     let b = start l in
     let r = row-step (b .args .bps) _ (part-length l) (l .loop .j) (b .args .out .now) (l .loop .out) _ (l .loop .inv .2) (rw (d .before .estimate-in .ensures) at (d .demap-cell .ensures)) in
-    (one-more (d .before .before .before .loop-test .taken), c .before .out .given .1 ∙ l .loop .inv .1, r)
+    (turn-more (d .before .before .before .loop-test .taken), c .before .out .given .1 ∙ l .loop .inv .1, r)
 
 same-length : tie.Need-same-length Inv-loop μ-loop
 same-length c = c .before .loop .inv .1

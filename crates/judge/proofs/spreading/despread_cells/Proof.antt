@@ -5,10 +5,11 @@ use mathlib.Core.Path.{_≡_, refl, _∙_}
 use native.Mathlib.Omega.{arith}
 use lib.Ieee.{Float}
 use lib.ListN.{length, drop}
+use Rattle.seq.specs.Loop.Laws.{turn-more, turn-less}
 use Rattle.seq.specs.Cat.Laws.{cat-none, lent}
 use Rattle.seq.specs.Cat.{cat}
 use Rattle.judge.specs.Judge.{answerOf, despread}
-use Rattle.judge.proofs.Rows.{row-inside, lent-long, one-more, one-less, next-fits, two-within, row-step, row-end}
+use Rattle.judge.proofs.Rows.{row-inside, lent-long, next-fits, two-within, row-step, row-end}
 use Rattle.judge.proofs.Placed.{Lent, cell-lent}
 use Rattle.judge.proofs.Laws.{length-despread, despread-by}
 use Rattle.judge.proofs.spreading.despread_cells.Statement.{statement}
@@ -72,7 +73,7 @@ add-j : tie.Need-add-j Inv-loop μ-loop
 add-j c = let i = c .before .before .before .before .before .before in next-fits (i .loop-test .taken) (begun (i .before) .pre .0)
 
 loop-less : tie.Need-loop-less Inv-loop μ-loop
-loop-less c = one-less (c .before .before .before .before .before .before .loop-test .taken)
+loop-less c = turn-less (c .before .before .before .before .before .before .loop-test .taken)
 
 loop-again : tie.Need-loop-again Inv-loop μ-loop
 loop-again c =
@@ -82,7 +83,7 @@ loop-again c =
     let b = begun l in
     let w = lent (l .loop .j * b .args .bps) (b .args .bps) (l .loop .out) (inside i) in
     let y = despread-by (b .args .pts .now) (b .args .bps) (b .args .e) (b .args .z .now) (l .loop .j) (d .before .before .before .sample .result) (d .before .before .new .result) _ (d .before .before .before .sample .ensures) (d .before .before .new .ensures) w in
-    (one-more (i .loop-test .taken), c .before .out .given .1 ∙ l .loop .inv .1, row-step (b .args .bps) (part l) (part-length l) (l .loop .j) (b .args .out .now) (l .loop .out) _ (l .loop .inv .2) (d .demap .ensures ∙ y))
+    (turn-more (i .loop-test .taken), c .before .out .given .1 ∙ l .loop .inv .1, row-step (b .args .bps) (part l) (part-length l) (l .loop .j) (b .args .out .now) (l .loop .out) _ (l .loop .inv .2) (d .demap .ensures ∙ y))
 
 same-length : tie.Need-same-length Inv-loop μ-loop
 same-length c = c .before .loop .inv .1

@@ -5,12 +5,13 @@ use native.Mathlib.Nat.{le-refl, le-antisymm}
 use native.Mathlib.Omega.{arith}
 use borrow.Author.Needs.{zero≤}
 use lib.ListN.{length, length-set}
+use Rattle.seq.specs.Loop.Laws.{turn-more, turn-less}
 use Rattle.load.specs.Find.{foundAt}
 use Rattle.load.specs.Fit.{Room, places}
 use Rattle.load.specs.Work.{Upto}
 use Rattle.load.proofs.Storing.{all-loaded}
 use Rattle.load.proofs.Turns.{room-kept, rows-begin}
-use Rattle.load.proofs.Marks.{Marks, marks, first-within, mark-within, turn-fits, turn-more, turn-less}
+use Rattle.load.proofs.Marks.{Marks, marks, first-within, mark-within, turn-fits}
 use Rattle.load.proofs.rows.load.Statement.{statement}
 use Rattle.load.proofs.rows.load.Tie as tie
 

@@ -4,10 +4,11 @@ use mathlib.Core.Path.{_≡_, refl, _∙_}
 use native.Mathlib.Nat.{le-of-lt, le-antisymm}
 use native.Mathlib.Omega.{arith}
 use lib.ListN.{length, length-set}
+use Rattle.seq.specs.Loop.Laws.{turn-less}
 use Rattle.load.specs.Find.{foundAt}
 use Rattle.load.specs.Fit.{places}
 use Rattle.load.proofs.Turns.{InRow, places-small, row-begins, row-room, row-turns, np-within, row-ends}
-use Rattle.load.proofs.Marks.{Marks, marks, mark-within, next-within, count-fits, turn-fits, turn-less, turn-word, few, place-within, row-fits, place-fits, sample-within, both-long}
+use Rattle.load.proofs.Marks.{Marks, marks, mark-within, next-within, count-fits, turn-fits, turn-word, few, place-within, row-fits, place-fits, sample-within, both-long}
 use Rattle.load.proofs.rows.row.Statement.{statement}
 use Rattle.load.proofs.rows.row.Tie as tie
 

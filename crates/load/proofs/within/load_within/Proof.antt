@@ -5,12 +5,13 @@ use native.Mathlib.Nat.{le-refl, le-antisymm}
 use native.Mathlib.Omega.{arith}
 use borrow.Author.Needs.{zero≤}
 use lib.ListN.{length, take, drop, length-set}
+use Rattle.seq.specs.Loop.Laws.{turn-more, turn-less}
 use Rattle.load.specs.Fit.{places}
 use Rattle.load.specs.Work.{Upto}
 use Rattle.load.specs.OneList.{valueIn, FitWithin}
 use Rattle.load.proofs.Storing.{all-loaded}
 use Rattle.load.proofs.Turns.{rows-begin}
-use Rattle.load.proofs.Marks.{Marks, marks, first-within, mark-within, turn-fits, turn-more, turn-less}
+use Rattle.load.proofs.Marks.{Marks, marks, first-within, mark-within, turn-fits}
 use Rattle.load.proofs.OneList.{fit-kept}
 use Rattle.load.proofs.within.load_within.Statement.{statement}
 use Rattle.load.proofs.within.load_within.Tie as tie

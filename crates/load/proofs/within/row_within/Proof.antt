@@ -5,10 +5,11 @@ use native.Mathlib.Nat.{le-of-lt, le-antisymm, le-trans}
 use native.Mathlib.Omega.{arith}
 use lib.ListN.{length, length-set, take, drop}
 use lib.Seq.{length-take-le}
+use Rattle.seq.specs.Loop.Laws.{turn-less}
 use Rattle.load.specs.Fit.{places}
 use Rattle.load.specs.OneList.{valueIn}
 use Rattle.load.proofs.Turns.{InRow, places-small, row-begins, row-room, row-turns, np-within, row-ends}
-use Rattle.load.proofs.Marks.{Marks, marks, mark-within, next-within, count-fits, turn-fits, turn-less, turn-word, few, place-within, row-fits, place-fits, sample-within, both-long}
+use Rattle.load.proofs.Marks.{Marks, marks, mark-within, next-within, count-fits, turn-fits, turn-word, few, place-within, row-fits, place-fits, sample-within, both-long}
 use Rattle.load.proofs.within.row_within.Statement.{statement}
 use Rattle.load.proofs.within.row_within.Tie as tie
 

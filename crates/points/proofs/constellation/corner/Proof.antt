@@ -2,7 +2,7 @@
 use borrow.Author.Needs.{needs}
 use native.Mathlib.Omega.{arith}
 use Rattle.points.specs.Constellation.{cornerOf}
-use Rattle.points.proofs.Counts.{counted}
+use Rattle.ieee.proofs.Floats.{counted}
 use Rattle.points.proofs.constellation.corner.Statement.{statement}
 use Rattle.points.proofs.constellation.corner.Tie as tie
 

@@ -3,7 +3,7 @@ use mathlib.Core.Path.{refl}
 use borrow.Author.Needs.{needs}
 use native.Mathlib.Omega.{arith}
 use Rattle.points.specs.Constellation.{level}
-use Rattle.points.proofs.Counts.{counted}
+use Rattle.ieee.proofs.Floats.{counted}
 use Rattle.points.proofs.constellation.level.Statement.{statement}
 use Rattle.points.proofs.constellation.level.Tie as tie
 

@@ -2,7 +2,7 @@
 use borrow.Author.Needs.{needs}
 use native.Mathlib.Omega.{arith}
 use Rattle.points.specs.Constellation.{angle, circlePoint}
-use Rattle.points.proofs.Counts.{counted}
+use Rattle.ieee.proofs.Floats.{counted}
 use Rattle.points.proofs.Angles.{angle-in-turns}
 use Rattle.points.proofs.constellation.on_circle.Statement.{statement}
 use Rattle.points.proofs.constellation.on_circle.Tie as tie

@@ -2,7 +2,8 @@
 use borrow.Author.Needs.{needs}
 use native.Mathlib.Omega.{arith}
 use Rattle.points.specs.Constellation.{qamScale}
-use Rattle.points.proofs.Counts.{counted, square}
+use Rattle.ieee.proofs.Floats.{counted}
+use Rattle.points.proofs.Counts.{square}
 use Rattle.points.proofs.constellation.scale.Statement.{statement}
 use Rattle.points.proofs.constellation.scale.Tie as tie
 

@@ -2,7 +2,8 @@
 use borrow.Author.Needs.{needs}
 use native.Mathlib.Omega.{arith}
 use Rattle.points.specs.Power.{meanEnergyOf}
-use Rattle.points.proofs.Counts.{counted, at-most-64}
+use Rattle.ieee.proofs.Floats.{counted}
+use Rattle.points.proofs.Counts.{at-most-64}
 use Rattle.points.proofs.power.mean_energy.Statement.{statement}
 use Rattle.points.proofs.power.mean_energy.Tie as tie
 

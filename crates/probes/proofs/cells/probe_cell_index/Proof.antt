@@ -3,7 +3,7 @@ use mathlib.Core.Path.{sym, _∙_}
 use native.Mathlib.Omega.{arith}
 use borrow.Author.Tests.{lt-ltb, le-ltb}
 use borrow.Author.Needs.{needs}
-use Rattle.probes.proofs.Asked.{not-first}
+use Rattle.load.proofs.Counted.{past-first}
 use Rattle.probes.proofs.cells.probe_cell_index.Statement.{statement}
 use Rattle.probes.proofs.cells.probe_cell_index.Tie as tie
 
@@ -22,7 +22,7 @@ returns-2 c =
     rw (← (m .ensures .0), lt-ltb (c .before .before .before .before .before .args .c) (m .result .nc) (omega arith), ← (c .before .is-pilot .ensures), c .if2 .taken)
 
 cell-index-requires : tie.Need-cell-index-requires
-cell-index-requires c κs = let e = sym (c .before .is-pilot .ensures) ∙ c .if2 .left in (c .before .before .before .before .map-of .ensures .1, not-first _ _ _ e, omega arith, e)
+cell-index-requires c κs = let e = sym (c .before .is-pilot .ensures) ∙ c .if2 .left in (c .before .before .before .before .map-of .ensures .1, past-first _ _ _ e, omega arith, e)
 
 returns-3 : tie.Need-returns-3
 returns-3 c =

@@ -9,7 +9,7 @@ use lib.Ieee.{nan}
 use Rattle.seq.specs.Cat.Laws.{cat-none, cat-more, length-catted, lent, returned}
 use Rattle.words.specs.Bytes.{word, number}
 use Rattle.wire.specs.Bytes.{numberBytes}
-use Rattle.wire.proofs.Stored.{length-word}
+use Rattle.words.proofs.Stored.{length-word}
 use Rattle.wire.proofs.answer.put_numbers.Statement.{statement}
 use Rattle.wire.proofs.answer.put_numbers.Tie as tie
 

@@ -4,7 +4,8 @@ use lib.Ieee.{binary32, binary64}
 use borrow.Author.Needs.{needs}
 use Rattle.layout.specs.Known.{ampOf, phaseOf, bValue}
 use Rattle.layout.specs.Fit.{FitPhases}
-use Rattle.layout.proofs.Small.{exact, square}
+use Rattle.ieee.proofs.Floats.{counted}
+use Rattle.layout.proofs.Small.{square}
 use Rattle.layout.proofs.map.Map.b_value.Statement.{statement}
 use Rattle.layout.proofs.map.Map.b_value.Tie as tie
 
@@ -12,7 +13,7 @@ p-sym-requires : tie.Need-p-sym-requires
 p-sym-requires c κs = search needs
 
 int-to-float-sqrt32 : tie.Need-int-to-float-sqrt32
-int-to-float-sqrt32 c = exact binary32 _ (omega (arith, c .before .before .pre .0 .few))
+int-to-float-sqrt32 c = counted binary32 _ (omega (arith, c .before .before .pre .0 .few))
 
 sqrt32-requires : tie.Need-sqrt32-requires
 sqrt32-requires c κs = search needs
@@ -21,10 +22,10 @@ mul-ph : tie.Need-mul-ph
 mul-ph c = let b = c .before .before .before in omega (arith, square (b .args .c) (b .args .self .nc) (b .pre .1) (b .pre .0 .few))
 
 int-to-float-ph : tie.Need-int-to-float-ph
-int-to-float-ph c = let b = c .before .before .before .before in exact binary64 _ (omega (arith, square (b .args .c) (b .args .self .nc) (b .pre .1) (b .pre .0 .few)))
+int-to-float-ph c = let b = c .before .before .before .before in counted binary64 _ (omega (arith, square (b .args .c) (b .args .self .nc) (b .pre .1) (b .pre .0 .few)))
 
 int-to-float-ph-2 : tie.Need-int-to-float-ph-2
-int-to-float-ph-2 c = exact binary64 _ (omega (arith, c .before .before .before .before .before .pre .0 .few))
+int-to-float-ph-2 c = counted binary64 _ (omega (arith, c .before .before .before .before .before .pre .0 .few))
 
 f32-to-f64-with-nan-requires : tie.Need-f32-to-f64-with-nan-requires
 f32-to-f64-with-nan-requires c κs = search needs

@@ -5,7 +5,7 @@ use lib.Ieee.{binary32}
 use borrow.Author.Needs.{needs}
 use Rattle.layout.specs.Known.{pSym}
 use Rattle.layout.proofs.Fits.{pilots-le}
-use Rattle.layout.proofs.Small.{exact}
+use Rattle.ieee.proofs.Floats.{counted}
 use Rattle.layout.proofs.map.Map.p_sym.Statement.{statement}
 use Rattle.layout.proofs.map.Map.p_sym.Tie as tie
 
@@ -19,10 +19,10 @@ sub-data : tie.Need-sub-data
 sub-data c = some c
 
 int-to-float-result : tie.Need-int-to-float-result
-int-to-float-result c = exact binary32 _ (omega (arith, some (c .before), c .before .before .before .pre .few))
+int-to-float-result c = counted binary32 _ (omega (arith, some (c .before), c .before .before .before .pre .few))
 
 int-to-float-result-2 : tie.Need-int-to-float-result-2
-int-to-float-result-2 c = exact binary32 _ (omega (arith, some (c .before .before), c .before .before .before .before .pre .few))
+int-to-float-result-2 c = counted binary32 _ (omega (arith, some (c .before .before), c .before .before .before .before .pre .few))
 
 returns : tie.Need-returns
 unfolding pSym
