@@ -34,6 +34,8 @@ mod timing;
 
 use std::env;
 use std::process::ExitCode;
+#[cfg(ion_hf)]
+use std::thread::Builder;
 
 use report::Tally;
 
@@ -92,8 +94,10 @@ fn compare() -> ExitCode {
 #[cfg(ion_hf)]
 fn from_source() -> Vec<Tally> {
     let mut tallies = oracle_checks::run();
+    // The records on one processor, the groups on another. The stack is the main thread's usual one.
+    let records = Builder::new().stack_size(8 << 20).spawn(records::compare).expect("a thread can be started");
     tallies.extend(groups::run());
-    tallies.extend(records::compare());
+    tallies.extend(records.join().expect("the records were compared"));
     tallies.extend(stored::kept());
     tallies
 }
