@@ -1,6 +1,10 @@
-// Complex numbers of two f32, after ion-dsp's `Complex`.
+// Complex numbers of two f32, after ion-dsp's `Complex`, and lists of numbers.
 ghost use mathlib.Core.Path.{_≡_};
 ghost use Rattle.dsp.specs.Arithmetic.{complex, conjᶜ, normSqr, scaleᶜ, _+ᶜ_, _-ᶜ_, _*ᶜ_, negᶜ};
+
+mod lists;
+
+pub use lists::copy;
 
 pub struct Complex {
     pub re: f32,

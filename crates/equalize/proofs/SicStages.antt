@@ -3,13 +3,13 @@ use Prim.Native.Nat.{ℕ, _-_, _*_, _≤_}
 use mathlib.Core.Path.{_≡_, refl, ap, _∙_}
 use mathlib.Core.List.{List, _++_}
 use native.Mathlib.Omega.{arith}
-use lib.ListN.{drop, replicate}
-use lib.Ieee.{Float}
+use lib.ListN.{drop, getD, replicate}
+use lib.Ieee.{Float, nan}
+use Rattle.seq.specs.Tab.{tab}
+use Rattle.seq.specs.Tab.Laws.{length-tab}
 use Rattle.ieee.specs.Num.{zero32}
-use Rattle.spread.specs.Flat.{complexAt}
 use Rattle.spread.specs.Spreader.{forwardOf, inverseOf}
-use Rattle.spread.proofs.Pairs.{pairs, length-pairs, pair-at}
-use Rattle.spread.proofs.Spreading.{length-forward, length-inverse, zeros-left}
+use Rattle.spread.proofs.Spreading.{copied, length-forward, length-inverse, zeros-left}
 use Rattle.equalize.specs.declared.canceller.Sums.{Sums}
 use Rattle.equalize.specs.declared.filter.Equalized.{Equalized}
 use Rattle.equalize.specs.Answer.{Equalizes}
@@ -17,13 +17,13 @@ use Rattle.equalize.specs.Sic.{spreadOf, carriersOf, resultOf, restored,
 use Rattle.equalize.proofs.Stages.{at-front, then, forward-reads, inverted}
 use Rattle.equalize.proofs.SicLaws.{length-carriers, carriers-read, restored-reads}
 
-pub spread-answer : (m : ℕ) (tw xm x₁ x₂ : List Float) → m ≤ 109 → x₁ ≡ pairs (complexAt xm) m ++ drop (2 * m) (replicate 218 zero32)
+pub spread-answer : (m : ℕ) (tw xm x₁ x₂ : List Float) → m ≤ 109 → x₁ ≡ tab (2 * m) (λ i. getD xm i nan) ++ drop (2 * m) (replicate 218 zero32)
     → x₂ ≡ forwardOf m tw x₁ ++ drop (2 * m) x₁ → x₂ ≡ spreadOf m tw xm
 unfolding spreadOf
 spread-answer m tw xm x₁ x₂ h e₁ e₂ =
-    then (forwardOf m tw) m (pairs (complexAt xm) m) (forwardOf m tw xm) (replicate 218 zero32) x₁ x₂
-    (λ l. forward-reads m tw (pairs (complexAt xm) m ++ l) xm (λ j b. pair-at (complexAt xm) m j l b))
-    (length-pairs (complexAt xm) m)
+    then (forwardOf m tw) m (tab (2 * m) (λ i. getD xm i nan)) (forwardOf m tw xm) (replicate 218 zero32) x₁ x₂
+    (λ l. forward-reads m tw (tab (2 * m) (λ i. getD xm i nan) ++ l) xm (copied m xm l))
+    (length-tab _ (2 * m))
     e₁
     e₂
     ∙ ap (λ (l : List Float). forwardOf m tw xm ++ l) (zeros-left (2 * m) (omega arith))

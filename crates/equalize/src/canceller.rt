@@ -3,8 +3,6 @@ ghost use mathlib.Core.Path.{_≡_};
 ghost use mathlib.Core.List.{_++_};
 ghost use Prim.Native.Nat.{_*_, _≤_};
 ghost use lib.ListN.{length, drop};
-ghost use Rattle.seq.specs.Cat.{cat};
-ghost use Rattle.spread.specs.Flat.{complexAt, flat};
 ghost use Rattle.dsp.specs.Arithmetic.{_-ᶜ_, _*ᶜ_};
 ghost use Rattle.equalize.specs.Answer.{Room, Equalizes};
 ghost use Rattle.equalize.specs.Sic.{spreadOf, added, carriersOf, resultOf, restored, sicOf};
@@ -16,8 +14,8 @@ use crate::filter::mean;
 use crate::filter::mean_gain;
 use crate::filter::passed;
 use crate::flat::get;
-use crate::flat::put;
 use dsp::Complex;
+use spread::put;
 
 // mu, p and q so far.
 struct Sums {
@@ -38,23 +36,13 @@ fn add(s: Sums, g: Complex, w: Complex, v: f32) -> Sums
     }
 }
 
-// The first m complex numbers of xm, to xs.
-fn copy(m: usize, xm: &[f32], xs: &mut [f32])
-    requires { ⌜ (m ≤ 109) × (2 * m ≤ length (now xm)) × (2 * m ≤ length (now xs)) ⌝ }
-    ensures { λ _. ⌜ now (xs .exit) ≡ cat m (λ j. flat (complexAt (now (xm .entry)) j)) ++ drop (2 * m) (now (xs .entry)) ⌝ }
-{
-    for j in 0..m {
-        put(xs, j, get(xm, j));
-    }
-}
-
 // xs: what the expected values are on the carriers.
 fn spread_copy(tw: &[f32; 218], m: usize, xm: &[f32]) -> [f32; 218]
     requires { ⌜ (m ≤ 109) × (2 * m ≤ length (now xm)) ⌝ }
     ensures { λ r. ⌜ r ≡ spreadOf m (now (tw .entry)) (now (xm .entry)) ⌝ }
 {
     let mut xs = [0.0f32; 218];
-    copy(m, xm, &mut xs);
+    dsp::copy(xm, &mut xs, 2 * m);
     spread::forward(tw, m, &mut xs);
     xs
 }

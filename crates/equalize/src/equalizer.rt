@@ -11,8 +11,8 @@ use crate::filter::mean;
 use crate::filter::mean_gain;
 use crate::filter::passed;
 use crate::flat::get;
-use crate::flat::put;
 use dsp::Complex;
+use spread::put;
 
 // mu and p so far.
 struct Sums {

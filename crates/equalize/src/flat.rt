@@ -1,7 +1,7 @@
 // Complex numbers in a flat list: re, im, re, im, ..
 ghost use mathlib.Core.Path.{_≡_};
 ghost use Prim.Native.Nat.{_+_, _*_, _<_, _≤_};
-ghost use lib.ListN.{length, set};
+ghost use lib.ListN.{length};
 ghost use Rattle.spread.specs.Flat.{complexAt};
 use dsp::Complex;
 
@@ -14,13 +14,4 @@ pub fn get(xs: &[f32], k: usize) -> Complex
         re: xs[2 * k],
         im: xs[2 * k + 1],
     }
-}
-
-// z in the place of complex number k.
-pub fn put(xs: &mut [f32], k: usize, z: Complex)
-    requires { ⌜ (k < 109) × (2 * k + 2 ≤ length (now xs)) ⌝ }
-    ensures { λ _. ⌜ now (xs .exit) ≡ set (set (now (xs .entry)) (2 * k) (z .re)) (2 * k + 1) (z .im) ⌝ }
-{
-    xs[2 * k] = z.re;
-    xs[2 * k + 1] = z.im;
 }

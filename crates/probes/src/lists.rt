@@ -27,9 +27,5 @@ pub fn put128(out: &mut [f32], v: &[f32; 128])
     requires { ⌜ (128 ≤ length (now out)) × (length (now v) ≡ 128) ⌝ }
     ensures { λ _. ⌜ now (out .exit) ≡ now (v .entry) ++ drop 128 (now (out .entry)) ⌝ }
 {
-    let mut i = 0;
-    while i < 128 {
-        out[i] = v[i];
-        i += 1;
-    }
+    dsp::copy(v, out, 128);
 }

@@ -1,21 +1,15 @@
 -- A list that is written whole.
 use Prim.Native.Nat.{ℕ, _≤_}
-use mathlib.Core.Path.{_≡_, refl, sym, ap, _∙_}
+use mathlib.Core.Path.{_≡_, ap, _∙_}
 use mathlib.Core.List.{List, _++_, append-nil}
 use native.Mathlib.Omega.{arith}
-use lib.ListN.{length, take, drop, getD, drop-of-length-le}
+use lib.ListN.{length, take, drop, drop-of-length-le}
 use lib.Seq.{take-at, drop-at, length-take-le}
-use lib.Ieee.{Float, nan}
-use Rattle.seq.specs.Tab.{tab}
-use Rattle.seq.specs.Tab.Laws.{tab-only}
+use lib.Ieee.{Float}
 
 -- nothing is left of it
 pub exact : (n : ℕ) (new old : List Float) → length old ≡ n → new ++ drop n old ≡ new
 exact n new old h = ap (λ (t : List Float). new ++ t) (drop-of-length-le old {i = n} (omega (arith, h))) ∙ append-nil new
-
--- it is the list of its numbers
-pub itself : (n : ℕ) (xs : List Float) → length xs ≡ n → tab n (λ i. getD xs i nan) ≡ xs
-itself n xs h = sym (tab-only (λ i. getD xs i nan) n nan xs h (λ i u. refl))
 
 -- ---- a part of it
 

@@ -4,20 +4,11 @@ ghost use Prim.Native.Nat.{_≤_, _<_};
 ghost use lib.ListN.{length};
 ghost use Rattle.bits.specs.Slots.{longest, bitOrder};
 
-fn copy(src: &[f32], dst: &mut [f32])
-    requires { ⌜ length (now dst) ≡ length (now src) ⌝ }
-    ensures { λ _. ⌜ now (dst .exit) ≡ now (src .entry) ⌝ }
-{
-    for i in 0..src.len() {
-        dst[i] = src[i];
-    }
-}
-
 // `room` takes the numbers in slot order.
 pub fn to_bit_order(room: &mut [f32], answer: &mut [f32])
     requires { ⌜ (length (now room) ≡ length (now answer)) × (0 < length (now answer)) × (length (now answer) ≤ longest) ⌝ }
     ensures { λ _. ⌜ now (answer .exit) ≡ bitOrder (length (now (answer .entry))) (now (answer .entry)) ⌝ }
 {
-    copy(answer, room);
+    dsp::copy(answer, room, answer.len());
     bits::from_slots(room, answer.len(), answer);
 }

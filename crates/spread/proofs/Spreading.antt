@@ -41,6 +41,15 @@ next-is m k idx h h' = go (decLe m (idx + k))
 pub next-lt : (m k idx : ℕ) → idx < m → k < m → next m k idx < m
 next-lt m k idx h h' = rw (next-is m k idx h h') (mod-lt (idx + k) (omega arith))
 
+-- a copy of the first m complex numbers has them
+pub copied : (m : ℕ) (a l : List Float) (j : ℕ) → j < m → complexAt (tab (2 * m) (λ i. getD a i nan) ++ l) j ≡ complexAt a j
+copied m a l j h = ap₂ complex (part (2 * j) (omega arith)) (part (2 * j + 1) (omega arith))
+  where
+    part : (i : ℕ) → i < 2 * m → getD (tab (2 * m) (λ x. getD a x nan) ++ l) i nan ≡ getD a i nan
+    part i h =
+        let f : ℕ → Float = λ x. getD a x nan in
+        List·getD-append (tab (2 * m) f) l nan i (omega (arith, length-tab f (2 * m))) ∙ getD-tab f (2 * m) i nan h
+
 module _ (m : ℕ) (tw : List Float) (inverse : Bool) (a : List Float) where
   abbrev after : ℕ → ℕ → Sum
   after k j = for 0 j (turn m tw inverse a k) start
@@ -98,12 +107,7 @@ module _ (m : ℕ) (tw : List Float) (inverse : Bool) (a : List Float) where
 
   -- so a copy of these does
   pub transform-copy : (l : List Float) → transform m tw inverse (tab (2 * m) (λ i. getD a i nan) ++ l) ≡ transform m tw inverse a
-  transform-copy l = sym (transform-reads (tab (2 * m) (λ i. getD a i nan) ++ l) (λ j h. ap₂ complex (part (2 * j) (omega arith)) (part (2 * j + 1) (omega arith))))
-    where
-      part : (i : ℕ) → i < 2 * m → getD a i nan ≡ getD (tab (2 * m) (λ x. getD a x nan) ++ l) i nan
-      part i h =
-          let f : ℕ → Float = λ x. getD a x nan in
-          sym (List·getD-append (tab (2 * m) f) l nan i (omega (arith, length-tab f (2 * m))) ∙ getD-tab f (2 * m) i nan h)
+  transform-copy l = sym (transform-reads (tab (2 * m) (λ i. getD a i nan) ++ l) (λ j h. sym (copied m a l j h)))
 
 pub length-forward : (m : ℕ) (tw v : List Float) → length (forwardOf m tw v) ≡ 2 * m
 unfolding forwardOf

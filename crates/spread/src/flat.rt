@@ -1,10 +1,7 @@
 // Complex numbers in a flat list: re, im, re, im, ..
 ghost use mathlib.Core.Path.{_≡_};
-ghost use mathlib.Core.List.{_++_};
 ghost use Prim.Native.Nat.{_+_, _*_, _<_, _≤_};
-ghost use lib.ListN.{length, getD, set, drop, replicate};
-ghost use lib.Ieee.{nan};
-ghost use Rattle.seq.specs.Tab.{tab};
+ghost use lib.ListN.{length, set, replicate};
 ghost use Rattle.ieee.specs.Num.{zero32};
 ghost use Rattle.spread.specs.Flat.{complexAt};
 use dsp::Complex;
@@ -34,16 +31,4 @@ pub fn put(xs: &mut [f32], k: usize, z: Complex)
 {
     xs[2 * k] = z.re;
     xs[2 * k + 1] = z.im;
-}
-
-// The first n numbers of v, into a.
-pub fn copy(a: &mut [f32], v: &[f32], n: usize)
-    requires { ⌜ (n ≤ length (now a)) × (n ≤ length (now v)) ⌝ }
-    ensures { λ _. ⌜ now (a .exit) ≡ tab n (λ i. getD (now (v .entry)) i nan) ++ drop n (now (a .entry)) ⌝ }
-{
-    let mut i = 0;
-    while i < n {
-        a[i] = v[i];
-        i += 1;
-    }
 }

@@ -3,6 +3,7 @@ mod flat;
 mod transform;
 mod twiddle;
 
+pub use flat::put;
 pub use transform::forward;
 pub use transform::inverse;
 pub use twiddle::twiddles;

@@ -5,11 +5,11 @@ ghost use Prim.Native.Nat.{_*_, _<_, _≤_};
 ghost use lib.ListN.{length, drop};
 ghost use Rattle.spread.specs.Flat.{complexAt};
 ghost use Rattle.spread.specs.Spreader.{factor, next, unitary, sumOf, transform, forwardOf, inverseOf};
-use crate::flat::copy;
 use crate::flat::get;
 use crate::flat::put;
 use crate::flat::zeros;
 use dsp::Complex;
+use dsp::copy;
 
 // Twiddle factor idx, or its conjugate.
 fn factor(tw: &[f32; 218], idx: usize, inverse: bool) -> Complex
@@ -79,7 +79,7 @@ fn in_place(m: usize, tw: &[f32; 218], inverse: bool, v: &mut [f32])
     ensures { λ _. ⌜ now (v .exit) ≡ transform m (now (tw .entry)) inverse (now (v .entry)) ++ drop (2 * m) (now (v .entry)) ⌝ }
 {
     let mut a = zeros();
-    copy(&mut a, v, 2 * m);
+    copy(v, &mut a, 2 * m);
     transform(m, tw, inverse, &a, v);
 }
 

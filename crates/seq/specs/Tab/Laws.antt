@@ -55,6 +55,10 @@ module _ {ℓ} {A : Type ℓ} (f : ℕ → A) where
   tab-only k d l h same =
       ext-getD d l (tab k f) (h ∙ sym (length-tab k)) (λ i b. let b' : i < k = omega (arith, h) in same i b' ∙ sym (getD-tab k i d b'))
 
+-- a list is made of its elements
+pub tab-itself {ℓ} : {A : Type ℓ} (n : ℕ) (d : A) (l : List A) → length l ≡ n → tab n (λ i. getD l i d) ≡ l
+tab-itself n d l h = sym (tab-only (λ i. getD l i d) n d l h (λ i b. refl))
+
 pub tab-same {ℓ} : {A : Type ℓ} (k : ℕ) (f g : ℕ → A) → ((i : ℕ) → i < k → f i ≡ g i) → tab k f ≡ tab k g
 unfolding tab
 tab-same zero f g h = refl

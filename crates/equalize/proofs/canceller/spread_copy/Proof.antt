@@ -7,6 +7,9 @@ use Rattle.equalize.proofs.canceller.spread_copy.Tie as tie
 slice-aggregate-copy : tie.Need-slice-aggregate-copy
 slice-aggregate-copy c = search needs
 
+mul-copy : tie.Need-mul-copy
+mul-copy c = search needs
+
 copy-requires : tie.Need-copy-requires
 copy-requires c κs = search needs
 
@@ -24,4 +27,4 @@ returns c =
 pub spread-copy-spec : {M : Type 1} → statement M
 spread-copy-spec =
     tie.close
-    (tie.spec slice-aggregate-copy copy-requires slice-aggregate-forward forward-requires returns)
+    (tie.spec slice-aggregate-copy mul-copy copy-requires slice-aggregate-forward forward-requires returns)

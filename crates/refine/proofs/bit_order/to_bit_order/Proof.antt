@@ -3,7 +3,10 @@ use mathlib.Core.Path.{refl, ap, _∙_}
 use lib.ListN.{length}
 use Rattle.bits.specs.Slots.{bitOrder}
 use Rattle.refine.proofs.Exact.{exact}
+use native.Mathlib.Omega.{arith}
+use lib.Ieee.{nan}
 use borrow.Author.Needs.{needs}
+use Rattle.seq.specs.Tab.Laws.{tab-itself}
 use Rattle.refine.proofs.bit_order.to_bit_order.Statement.{statement}
 use Rattle.refine.proofs.bit_order.to_bit_order.Tie as tie
 
@@ -23,7 +26,7 @@ returns : tie.Need-returns
 returns c =
     let t = c .before .before .before .before .before .before .before in
     let answer = t .before .before .before .before .before .args .answer .now in
-    c .before .before .from-slots .ensures ∙ (exact (length answer) _ answer refl ∙ ap (bitOrder (length answer)) (t .copy .ensures))
+    c .before .before .from-slots .ensures ∙ (exact (length answer) _ answer refl ∙ ap (bitOrder (length answer)) (t .copy .ensures ∙ (exact (length answer) _ _ (omega arith) ∙ tab-itself (length answer) nan answer refl)))
 
 pub to-bit-order-spec : {M : Type 1} → statement M
 to-bit-order-spec =

@@ -1,6 +1,6 @@
--- `copy` has written the numbers below i.
+-- `copy` has written the numbers below i, and nothing past them.
 use Prim.Native.Nat.{_-_, _≤_}
-use mathlib.Core.Path.{_≡_, refl, _∙_}
+use mathlib.Core.Path.{_≡_, refl}
 use mathlib.Core.List.{_++_}
 use native.Mathlib.Omega.{arith}
 use borrow.Author.Needs.{needs}
@@ -8,15 +8,14 @@ use lib.ListN.{length, drop, getD, length-set}
 use lib.Ieee.{nan}
 use Rattle.seq.specs.Tab.{tab}
 use Rattle.seq.specs.Tab.Laws.{tab-none, tab-step, tab-end}
-use Rattle.refine.proofs.Exact.{exact, itself}
-use Rattle.refine.proofs.bit_order.copy.Statement.{statement}
-use Rattle.refine.proofs.bit_order.copy.Tie as tie
+use Rattle.dsp.proofs.lists.copy.Statement.{statement}
+use Rattle.dsp.proofs.lists.copy.Tie as tie
 
 abbrev Inv-loop : tie.InvT-loop
-Inv-loop src dst₀ i₀ i-end dst i = (i ≤ i-end) × ((length dst ≡ length dst₀) × (dst ≡ tab i (λ x. getD src x nan) ++ drop i dst₀))
+Inv-loop src dst₀ n i₀ dst i = (i ≤ n) × ((length dst ≡ length dst₀) × (dst ≡ tab i (λ x. getD src x nan) ++ drop i dst₀))
 
 abbrev μ-loop : tie.MeasureT-loop
-μ-loop src dst₀ i₀ i-end dst i = i-end - i
+μ-loop src dst₀ n i₀ dst i = n - i
 
 loop-holds : tie.Need-loop-holds Inv-loop μ-loop
 loop-holds c = (search needs, (refl, tab-none _ _))
@@ -52,8 +51,7 @@ returns : tie.Need-returns Inv-loop μ-loop
 returns c =
     let l = c .before .loop in
     let s = c .before .before .args in
-    tab-end (λ x. getD (s .src .now) x nan) (l .i) (length (s .src .now)) (s .dst .now) (l .dst) (l .inv .0) (c .loop-test .left) (l .inv .1 .1)
-    ∙ (exact _ _ _ (c .before .before .pre) ∙ itself _ _ refl)
+    tab-end (λ x. getD (s .src .now) x nan) (l .i) (s .n) (s .dst .now) (l .dst) (l .inv .0) (c .loop-test .left) (l .inv .1 .1)
 
 pub copy-spec : {M : Type 1} → statement M
 copy-spec =
