@@ -1,4 +1,6 @@
 // The entries under C names, for the comparison with the Rust. None has a `requires`.
+#![tactic(auto)]
+
 mod channels;
 mod decisions;
 mod equalizations;

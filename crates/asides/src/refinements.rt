@@ -8,7 +8,7 @@ use refine::Settings;
 
 // 0, both indices of the model, how many likelihoods are not a number, and the scale; or the cause's number and zeros.
 #[repr(C)]
-#[derive(Drop)]
+#[derive(Clone, Copy)]
 pub struct Report {
     pub number: u32,
     pub fd: u32,

@@ -5,7 +5,7 @@ ghost use Rattle.beside.specs.Decisions.{isFiniteᶜ, Decides};
 use dsp::Complex;
 
 // The point, or a code above 3, or a number that is not finite.
-#[derive(Drop)]
+#[derive(Clone, Copy)]
 pub enum Decision {
     Accepted(Complex),
     Code,

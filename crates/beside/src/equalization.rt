@@ -5,7 +5,7 @@ ghost use Rattle.beside.specs.Equalizations.{bad_lengths, bad_numbers, Equalizin
 use equalize::Equalized;
 
 // Mean gain and variance, or lists that do not fit each other, or a number that is not finite or a variance below 0.
-#[derive(Drop)]
+#[derive(Clone, Copy)]
 pub enum Equalization {
     Accepted(Equalized),
     Lengths,

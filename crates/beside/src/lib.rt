@@ -1,4 +1,6 @@
 // Document 01's entries beside the refinement that take no burst. Part 10 stands in for the table of causes there.
+#![tactic(auto)]
+
 mod decision;
 mod equalization;
 

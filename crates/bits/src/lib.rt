@@ -1,4 +1,6 @@
 // Bits and slots: the scrambler, the interleaver's step, and a burst's numbers in slot order and in bit order.
+#![tactic(auto)]
+
 mod mix;
 mod slots;
 mod step;

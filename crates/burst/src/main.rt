@@ -1,4 +1,6 @@
 // Reads one burst record from standard input and prints document 01's lines of it.
+#![tactic(auto)]
+
 mod answer;
 mod digits;
 mod lines;

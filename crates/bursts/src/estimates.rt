@@ -16,7 +16,7 @@ use probes::{Settings, probe_load, put3};
 
 // Pilots an estimate may use, the model by its indices, and the factor on its errors.
 #[repr(C)]
-#[derive(Drop)]
+#[derive(Clone, Copy)]
 pub struct Asked {
     pub k: usize,
     pub fd: u32,
@@ -25,7 +25,7 @@ pub struct Asked {
 }
 
 // The model as the estimates use it: the window, the units of distance, the channel's mean power, and the factor on the errors.
-#[derive(Drop)]
+#[derive(Clone, Copy)]
 pub struct Fitted {
     pub w: Window,
     pub u: Scales,

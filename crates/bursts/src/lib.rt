@@ -1,4 +1,6 @@
 // What is found of a burst, under C names, for the comparison with the Rust. None has a `requires`.
+#![tactic(auto)]
+
 mod estimates;
 mod models;
 mod work;

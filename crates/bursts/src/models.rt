@@ -13,7 +13,7 @@ use probes::{Settings, probe_load};
 
 // How many pilots there are, 0 when refused; then all is 0.
 #[repr(C)]
-#[derive(Drop)]
+#[derive(Clone, Copy)]
 pub struct Selected {
     pub np: usize,
     pub residuals: [f64; 9],

@@ -5,7 +5,7 @@ use crate::metrics::distance;
 use dsp::Complex;
 
 // The least distance so far, and the point that has it.
-#[derive(Drop)]
+#[derive(Clone, Copy)]
 struct Best {
     e: f32,
     x: Complex,

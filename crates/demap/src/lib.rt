@@ -1,4 +1,6 @@
 // A cell's likelihoods and its nearest point, after est.rs.
+#![tactic(auto)]
+
 mod decision;
 mod halves;
 mod likelihoods;

@@ -5,7 +5,7 @@ ghost use Rattle.demap.specs.Demap.{distance_of, metric_of, metrics_of};
 use dsp::Complex;
 
 // A cell y = h x + n, where the channel estimate h has the error variance mse and the noise n the variance sigma2.
-#[derive(Drop)]
+#[derive(Clone, Copy)]
 pub struct Cell {
     pub y: Complex,
     pub h: Complex,

@@ -1,4 +1,6 @@
 // Complex numbers of two f32, after ion-dsp's `Complex`, and lists of numbers.
+#![tactic(auto)]
+
 ghost use Rattle.std.specs.Prelude.{◌≡◌};
 ghost use Rattle.dsp.specs.Arithmetic.{complex, conjᶜ, norm_sqr, scaleᶜ, ◌+ᶜ◌, ◌-ᶜ◌, ◌*ᶜ◌, negᶜ};
 
@@ -6,7 +8,7 @@ mod lists;
 
 pub use lists::copy;
 
-#[derive(Drop)]
+#[derive(Clone, Copy)]
 pub struct Complex {
     pub re: f32,
     pub im: f32,

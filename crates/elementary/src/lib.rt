@@ -1,3 +1,5 @@
+#![tactic(auto)]
+
 mod circular;
 mod exponential;
 mod fixed;

@@ -10,7 +10,7 @@ use dsp::Complex;
 use spread::put;
 
 // mu, p and q so far.
-#[derive(Drop)]
+#[derive(Clone, Copy)]
 struct Sums {
     mu: f32,
     p: f32,

@@ -9,7 +9,7 @@ use dsp::Complex;
 use spread::put;
 
 // mu and p so far.
-#[derive(Drop)]
+#[derive(Clone, Copy)]
 struct Sums {
     mu: f32,
     p: f32,

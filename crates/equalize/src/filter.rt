@@ -6,7 +6,7 @@ use crate::flat::get;
 use dsp::Complex;
 
 // The mean gain of the despread symbols and the variance of what is left: z = mu·x + e.
-#[derive(Drop)]
+#[derive(Clone, Copy)]
 pub struct Equalized {
     pub mu: f32,
     pub var: f32,

@@ -1,4 +1,6 @@
 // Equalisation of a DFT-spread symbol: est.rs, `fde`, and refine.rs, `sic`.
+#![tactic(auto)]
+
 mod canceller;
 mod equalizer;
 mod filter;

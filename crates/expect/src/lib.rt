@@ -1,4 +1,6 @@
 // refine.rs, `refine`: the expected value and variance of every data cell as sent, under the priors.
+#![tactic(auto)]
+
 mod cells;
 mod symbol;
 mod within;
@@ -13,7 +15,7 @@ pub use symbol::{row_means, row_variance};
 pub use within::expect_within;
 
 // Data symbols, cells in each, bits a cell, the points' gain, and whether a symbol's points are spread over its carriers.
-#[derive(Drop)]
+#[derive(Clone, Copy)]
 pub struct Shape {
     pub nsym: usize,
     pub dc: usize,

@@ -1,1 +1,2 @@
 // Definitions and facts only: document 01's worked cases.
+#![tactic(auto)]

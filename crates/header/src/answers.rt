@@ -2,7 +2,7 @@
 use crate::fields::Header;
 
 // A row of document 01's table of causes.
-#[derive(Drop)]
+#[derive(Clone, Copy)]
 pub enum Cause {
     Layout,
     Fields,
@@ -10,13 +10,13 @@ pub enum Cause {
     Check,
 }
 
-#[derive(Drop)]
+#[derive(Clone, Copy)]
 pub enum Written {
     Done,
     Refused(Cause),
 }
 
-#[derive(Drop)]
+#[derive(Clone, Copy)]
 pub enum Parsed {
     Data(Header),
     HeaderOnly(Header),

@@ -4,7 +4,7 @@ ghost use Rattle.header.specs.Fields.{accepted, data_info, only_info, data_from,
 
 use crate::mode::{DataMode, flag};
 
-#[derive(Drop)]
+#[derive(Clone, Copy)]
 pub struct Header {
     // 0 = QPSK, 1 = 8PSK, 2 = 16QAM, 3 = 64QAM (0 in a header-only burst).
     pub constellation: u8,

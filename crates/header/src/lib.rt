@@ -1,4 +1,6 @@
 // The burst header: 32 bits of information and a CRC-16, one bit a byte, written and read.
+#![tactic(auto)]
+
 mod answers;
 mod bits;
 mod check;

@@ -2,7 +2,7 @@
 ghost use Rattle.std.specs.Prelude.{◌≡◌, ◌≤◌};
 ghost use Rattle.header.specs.Fields.{bit, mode_bits, mode_from};
 
-#[derive(Drop)]
+#[derive(Clone, Copy)]
 pub struct DataMode {
     pub spread: bool,
     pub gain_code: u8,

@@ -1,4 +1,6 @@
 // The header's functions under C names, for the comparison with the Rust. None has a `requires`.
+#![tactic(auto)]
+
 ghost use Rattle.std.specs.Prelude.{◌≡◌};
 ghost use Rattle.header.specs.Causes.{cause_number, written_number, parsed_number};
 ghost use Rattle.header.specs.Check.{crc16_of};

@@ -1,4 +1,6 @@
 // IEEE 754 where the language leaves it open: narrowing, square roots, bit patterns, and what depends on how two numbers compare.
+#![tactic(auto)]
+
 mod convert;
 mod newton;
 mod order;

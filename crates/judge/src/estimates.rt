@@ -17,7 +17,7 @@ use near::{Query, Window};
 use soft::loud;
 
 // The chosen model as the estimates use it: the window, the units of distance, and the factor on the errors.
-#[derive(Drop)]
+#[derive(Clone, Copy)]
 pub struct Fitted {
     pub w: Window,
     pub u: Scales,

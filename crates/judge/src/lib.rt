@@ -1,4 +1,6 @@
 // refine.rs, `refine`: the cells of one data symbol, estimated without their own pilots and judged.
+#![tactic(auto)]
+
 mod estimates;
 mod places;
 mod plain;

@@ -2,7 +2,7 @@
 use crate::pattern::Pattern;
 
 // What differs between the numerologies, as far as the path of a burst reads it.
-#[derive(Drop)]
+#[derive(Clone, Copy)]
 pub struct Layout {
     // FFT length and cyclic prefix, samples at 8 kHz.
     pub n: usize,

@@ -8,7 +8,7 @@ use crate::pattern::Pattern;
 
 // Symbol 0 is all known, the header's symbols (1..hdr_end) have the robust pattern, the data symbols the burst's own. Of the
 // layout it holds what is read for each cell.
-#[derive(Drop)]
+#[derive(Clone, Copy)]
 pub struct Map {
     pub nc: usize,
     pub hdr_end: usize,

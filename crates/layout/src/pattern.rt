@@ -4,7 +4,7 @@ ghost use Rattle.layout.specs.Patterns.{first_pilot, on_pattern, pilots_of};
 ghost use Rattle.layout.specs.Fit.{Turning, FitPattern};
 
 // Scattered pilots: carrier `c` is a pilot in symbol `g` when `c mod step = shift · (g mod period)`, and the top carrier in every symbol.
-#[derive(Drop)]
+#[derive(Clone, Copy)]
 pub struct Pattern {
     pub step: usize,
     pub shift: usize,

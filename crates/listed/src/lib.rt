@@ -1,4 +1,6 @@
 // The single estimate from one lent list of pilot records: document 01, part 6.
+#![tactic(auto)]
+
 mod order;
 mod single;
 

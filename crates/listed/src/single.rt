@@ -10,7 +10,7 @@ use near::Query;
 use refine::{carrier_room, fit, symbol_room};
 
 // A cell, carrier c of symbol g, of a burst with this setting.
-#[derive(Drop)]
+#[derive(Clone, Copy)]
 pub struct Ask {
     pub setting: Setting,
     pub c: usize,

@@ -8,7 +8,7 @@ use layout::Map;
 use soft::loud;
 
 // A value and the variance of `y - h * x`: of a known cell, or of a data cell whose expected value says enough.
-#[derive(Drop)]
+#[derive(Clone, Copy)]
 pub enum Found {
     Known(Complex, f32),
     Soft(Complex, f32),
@@ -17,7 +17,7 @@ pub enum Found {
 
 // The numbers that the loader reads: data carriers a data symbol, grid symbols, the reference symbol's boost, the channel's power,
 // the constellation's mean energy.
-#[derive(Drop)]
+#[derive(Clone, Copy)]
 pub struct Source {
     pub map: Map,
     pub dc: usize,

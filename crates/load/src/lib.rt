@@ -1,4 +1,6 @@
 // What the loader finds at a cell, and the list of pilots that it makes: est.rs, `load_with`.
+#![tactic(auto)]
+
 mod found;
 mod pilot;
 mod push;

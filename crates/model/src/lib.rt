@@ -1,4 +1,6 @@
 // est.rs, `select_model`: the model of the channel that the pilots bear out best.
+#![tactic(auto)]
+
 mod select;
 mod trial;
 mod values;

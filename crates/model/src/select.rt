@@ -9,7 +9,7 @@ use crate::trial::{Setting, Tried, score};
 use crate::values::{fd_value, tm_value};
 
 // A model by its indices, 3 3 where none was borne out, and the factor on its errors.
-#[derive(Drop)]
+#[derive(Clone, Copy)]
 pub struct Model {
     pub fd: u32,
     pub tm: u32,
@@ -17,7 +17,7 @@ pub struct Model {
 }
 
 // The smallest residual so far, and whose it is.
-#[derive(Drop)]
+#[derive(Clone, Copy)]
 pub struct Best {
     pub r: f64,
     pub model: Model,

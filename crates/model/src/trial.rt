@@ -13,7 +13,7 @@ use load::Pilot;
 use near::{Query, Window};
 
 // What a burst's models are tried with: its layout, whether its pilots are sparse, its symbols, how many pilots an estimate may use, the channel's power.
-#[derive(Drop)]
+#[derive(Clone, Copy)]
 pub struct Setting {
     pub l: Layout,
     pub sparse: bool,
@@ -23,7 +23,7 @@ pub struct Setting {
 }
 
 // The squared distance of pilots from their estimates, their variances, and the estimates' errors.
-#[derive(Drop)]
+#[derive(Clone, Copy)]
 pub struct Tried {
     pub r: f64,
     pub v: f64,

@@ -4,7 +4,7 @@ ghost use Rattle.std.specs.Prelude.{◌<◌, ◌≤◌, ◌+◌};
 use crate::burst::is_own;
 
 // What was counted so far: a cell's numbers that are equal and that differ, and the other cells' that differ.
-#[derive(Drop)]
+#[derive(Clone, Copy)]
 pub struct Count {
     pub equal: u64,
     pub differ: u64,

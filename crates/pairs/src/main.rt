@@ -1,6 +1,8 @@
 // Refinements of one burst: with its priors, and with the priors of one cell's own bits negated. `Independence` of phy says that this cell's
 // estimate, error and likelihoods are then the same where model and scale are. The lines show that there are such pairs, that the
 // other cells' numbers do change, and that the cell's own do where the model is another one.
+#![tactic(auto)]
+
 mod burst;
 mod count;
 

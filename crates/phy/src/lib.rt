@@ -1,4 +1,6 @@
 // Document 01's entries on numbers. Each tests what it is handed, from the top of the table of causes, and writes nothing before the last test.
+#![tactic(auto)]
+
 mod power;
 mod refinement;
 mod single;

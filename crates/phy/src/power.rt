@@ -6,7 +6,7 @@ use crate::work::work_verdict;
 use refine::Settings;
 use table::{Cause, Verdict};
 
-#[derive(Drop)]
+#[derive(Clone, Copy)]
 pub enum Power {
     Accepted(f32),
     Refused(Cause),

@@ -5,7 +5,7 @@ ghost use Rattle.phy.specs.Entry.{Refining};
 use refine::{Refined, Settings};
 use table::{Cause, Lent, Verdict, verdict};
 
-#[derive(Drop)]
+#[derive(Clone, Copy)]
 pub enum Refinement {
     Accepted(Refined),
     Refused(Cause),

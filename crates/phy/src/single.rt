@@ -10,7 +10,7 @@ use est::Estimate;
 use refine::Settings;
 use table::{Cause, Verdict, nc};
 
-#[derive(Drop)]
+#[derive(Clone, Copy)]
 pub enum Single {
     Accepted(Estimate),
     Refused(Cause),

@@ -1,4 +1,6 @@
 // The four constellations of a burst, after frame.rs: points by their Gray label, at unit mean energy.
+#![tactic(auto)]
+
 mod constellation;
 mod power;
 mod table;

@@ -4,7 +4,7 @@ ghost use Rattle.points.specs.Table.{blank, point_at, put_at};
 use dsp::Complex;
 
 // 64 points as re, im, re, im, .., of which the first 2^bps are the constellation's and the rest are zero.
-#[derive(Drop)]
+#[derive(Clone, Copy)]
 pub struct Points {
     pub bps: usize,
     pub pts: [f32; 128],

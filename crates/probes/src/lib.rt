@@ -1,4 +1,6 @@
 // The leaf functions under C names, for the comparison with the Rust. None has a `requires`: each says what it answers to anything.
+#![tactic(auto)]
+
 mod cells;
 mod constellations;
 mod functions;

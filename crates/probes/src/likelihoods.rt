@@ -12,7 +12,7 @@ use dsp::Complex;
 
 // demap's Cell: y, the estimate h and its error, and the noise.
 #[repr(C)]
-#[derive(Drop)]
+#[derive(Clone, Copy)]
 pub struct Received {
     pub y_re: f32,
     pub y_im: f32,

@@ -9,7 +9,7 @@ use load::Source;
 // Layout by number, sparse pilots, the data pilots' gain, data symbols, the reference symbol's boost, the channel's mean power, the points' mean
 // energy.
 #[repr(C)]
-#[derive(Drop)]
+#[derive(Clone, Copy)]
 pub struct Settings {
     pub layout: u32,
     pub sparse: bool,

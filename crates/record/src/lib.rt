@@ -1,4 +1,6 @@
 // The C interface on the burst record of document 01.
+#![tactic(auto)]
+
 mod calls;
 mod judging;
 

@@ -1,4 +1,6 @@
 // refine.rs, `BurstGrid::refine`: an accepted burst judged again with the decoder's likelihoods as priors.
+#![tactic(auto)]
+
 mod bit_order;
 mod expected;
 mod fitted;

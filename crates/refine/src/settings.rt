@@ -13,7 +13,7 @@ use model::Setting;
 // What a burst's header and the station say of it: layout and constellation by number, data symbols, sparse pilots, DFT-spread symbols, the
 // code of the points' gain, pilots an estimate may use, the reference symbol's boost, the data pilots' gain, the channel's mean power.
 #[repr(C)]
-#[derive(Drop)]
+#[derive(Clone, Copy)]
 pub struct Settings {
     pub layout: u32,
     pub constellation: u32,
@@ -28,7 +28,7 @@ pub struct Settings {
 }
 
 // The same as the steps of the path take them.
-#[derive(Drop)]
+#[derive(Clone, Copy)]
 pub struct Plan {
     pub source: Source,
     pub shape: Shape,

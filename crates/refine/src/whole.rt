@@ -20,7 +20,7 @@ use crate::spoilt::spoilt;
 use model::Model;
 
 // The model by its indices, 3 3 where none was borne out, the factor on its errors, and how many likelihoods are not a number.
-#[derive(Drop)]
+#[derive(Clone, Copy)]
 pub struct Refined {
     pub fd: u32,
     pub tm: u32,

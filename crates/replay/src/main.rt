@@ -1,6 +1,8 @@
 // Replays stored records: standard input is a sequence of entries, each with a record's length and its answer's length (two bytes
 // each, the most significant first), the number that the call returns, the record and the answer. Prints the place of each that
 // differs, counted from 0, and how many there were.
+#![tactic(auto)]
+
 mod entry;
 
 ghost use Rattle.std.specs.Prelude.{◌≡◌, true, ◌+◌, ◌≤◌, ◌<◌, length};
@@ -36,7 +38,7 @@ fn replayed(head: &[u8; 5]) -> bool {
 }
 
 // What was counted so far.
-#[derive(Drop)]
+#[derive(Clone, Copy)]
 struct Tally {
     read: u64,
     differ: u64,

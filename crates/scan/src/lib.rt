@@ -1,4 +1,6 @@
 // Tests of every number of a list.
+#![tactic(auto)]
+
 ghost use Rattle.std.specs.Prelude.{◌≡◌, take};
 ghost use Rattle.ieee.specs.Order.{is_finite};
 ghost use Rattle.scan.specs.Fine.{all, is_variance};

@@ -14,7 +14,7 @@ pub fn softplus(x: f32) -> f32
 }
 
 // What a bit takes from the logarithm of its label's probability, where it is 0 and where it is 1.
-#[derive(Drop)]
+#[derive(Clone, Copy)]
 pub struct Costs {
     pub zero: f32,
     pub one: f32,

@@ -1,4 +1,6 @@
 // The expected value and the variance of a data cell under its priors, after refine.rs.
+#![tactic(auto)]
+
 mod bit;
 mod labels;
 mod moments;

@@ -5,7 +5,7 @@ use crate::labels::log_probabilities;
 use dsp::Complex;
 
 // The expected value of a point and of its power, so far.
-#[derive(Drop)]
+#[derive(Clone, Copy)]
 struct Moments {
     mu: Complex,
     e2: f32,
@@ -21,7 +21,7 @@ fn add(s: Moments, x: Complex, p: f32) -> Moments
     }
 }
 
-#[derive(Drop)]
+#[derive(Clone, Copy)]
 pub struct Soft {
     pub mean: Complex,
     pub var: f32,

@@ -6,7 +6,7 @@ ghost use Rattle.solve.specs.Solve.{below};
 
 use crate::matrix::{get, put};
 
-#[derive(Drop)]
+#[derive(Clone, Copy)]
 pub struct Quad {
     pub s0: f64,
     pub s1: f64,

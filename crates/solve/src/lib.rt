@@ -1,4 +1,6 @@
 // est.rs, solve_spd: a Cholesky solve of 40 unknowns at most.
+#![tactic(auto)]
+
 mod factor;
 mod fours;
 mod matrix;

@@ -1,5 +1,5 @@
 -- The constant of the source, and that `sin` and `cos` may be asked for every angle. Roughly is enough: a rounded value is as near to the exact one as 0 is, so at most twice its size.
-use Rattle.core.specs.Prelude.{◌≡◌, ℕ, ◌*◌, ◌^◌, ◌<◌, ◌≤◌, Bool, true, false, not, T, ltb, pos}
+use Rattle.std.specs.Prelude.{◌≡◌, ℕ, ◌*◌, ◌^◌, ◌<◌, ◌≤◌, Bool, true, false, not, T, ltb, pos}
 use mathlib.Core.Path.{refl, sym, ◌∙◌}
 use native.Mathlib.Nat.{le_trans, le_of_eq, mul-le-mul, mul-le-mul_right, le_of_mul-le-mul_right, mul-mul-mul_comm, mul_assoc, mul_comm, mul-one, mul-pos, lt_of_le_of_lt}
 use native.Mathlib.Omega.{arith}

@@ -1,5 +1,5 @@
 -- Complex numbers joined in a flat list: how a loop writes them, how long the list is, and number k of it.
-use Rattle.core.specs.Prelude.{◌≡◌, ℕ, ◌+◌, ◌*◌, ◌<◌, ◌≤◌, List, ◌++◌, length, get_or, drop, set}
+use Rattle.std.specs.Prelude.{◌≡◌, ℕ, ◌+◌, ◌*◌, ◌<◌, ◌≤◌, List, ◌++◌, length, get_or, drop, set}
 use mathlib.Core.Path.{refl, ap₂, ◌∙◌}
 use mathlib.Core.List.{append_assoc}
 use native.Mathlib.Numerals.{add-one}

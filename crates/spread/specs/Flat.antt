@@ -1,5 +1,5 @@
 -- A list of complex numbers as a flat list of floats: re, im, re, im, ..
-use Rattle.core.specs.Prelude.{ℕ, ◌+◌, ◌*◌, List, [], ◌∷◌, slice_index_or}
+use Rattle.std.specs.Prelude.{ℕ, ◌+◌, ◌*◌, List, [], ◌∷◌, slice_index_or}
 use Rattle.std.specs.Prelude.{Float}
 use Rattle.std.specs.Float.{nan}
 use Rattle.dsp.specs.declared.Complex.{Complex}

@@ -1,5 +1,5 @@
 -- frame.rs, `Spreader`, for m from 1 on: the discrete Fourier transform of m complex numbers and its inverse, both divided by √m, each sum in the source's order.
-use Rattle.core.specs.Prelude.{◌≡◌, ℕ, ◌+◌, ◌-◌, ◌*◌, ◌%◌, ◌<◌, Bool, true, false, cond, List, ◌++◌, replicate, from_bits, nat_le}
+use Rattle.std.specs.Prelude.{◌≡◌, ℕ, ◌+◌, ◌-◌, ◌*◌, ◌%◌, ◌<◌, Bool, true, false, cond, List, ◌++◌, replicate, from_bits, nat_le}
 use Rattle.std.specs.Prelude.{Float}
 use Rattle.std.specs.Float.{binary32, binary64}
 use Rattle.std.specs.Float.Ieee.{neg}

@@ -1,5 +1,5 @@
 // Complex numbers in a flat list: re, im, re, im, ..
-ghost use Rattle.core.specs.Prelude.{◌≡◌, ◌+◌, ◌*◌, ◌<◌, ◌≤◌, length, replicate, slice_set};
+ghost use Rattle.std.specs.Prelude.{◌≡◌, ◌+◌, ◌*◌, ◌<◌, ◌≤◌, length, replicate, slice_set};
 ghost use Rattle.ieee.specs.Num.{zero32};
 ghost use Rattle.spread.specs.Flat.{complex_at};
 

@@ -1,4 +1,6 @@
 // frame.rs, `Spreader`: the discrete Fourier transform that spreads a symbol's points over its carriers, and its inverse.
+#![tactic(auto)]
+
 mod flat;
 mod transform;
 mod twiddle;

@@ -1,5 +1,5 @@
 // `transform`, and `forward` and `inverse` over a lent list.
-ghost use Rattle.core.specs.Prelude.{◌≡◌, ◌*◌, ◌<◌, ◌≤◌, ◌++◌, length, drop};
+ghost use Rattle.std.specs.Prelude.{◌≡◌, ◌*◌, ◌<◌, ◌≤◌, ◌++◌, length, drop};
 ghost use Rattle.spread.specs.Flat.{complex_at};
 ghost use Rattle.spread.specs.Spreader.{factor, next, unitary, sum_of, transform, forward_of, inverse_of};
 

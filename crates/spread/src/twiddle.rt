@@ -1,5 +1,5 @@
 // `Spreader::new`: the twiddle factors.
-ghost use Rattle.core.specs.Prelude.{◌≡◌, ◌*◌, ◌<◌, ◌≤◌, ◌++◌, length, drop};
+ghost use Rattle.std.specs.Prelude.{◌≡◌, ◌*◌, ◌<◌, ◌≤◌, ◌++◌, length, drop};
 ghost use Rattle.seq.specs.Cat.{cat};
 ghost use Rattle.spread.specs.Flat.{flat};
 ghost use Rattle.spread.specs.Spreader.{angle, twiddle, twiddles_of};

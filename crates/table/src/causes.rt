@@ -3,7 +3,7 @@ ghost use Rattle.std.specs.Prelude.{◌≡◌};
 ghost use Rattle.table.specs.Causes.{cause_number};
 
 // A row of the table of causes.
-#[derive(Drop)]
+#[derive(Clone, Copy)]
 pub enum Cause {
     Layout,
     Codes,
@@ -30,14 +30,14 @@ pub fn cause_number(cause: Cause) -> u32
 }
 
 // What the table says of a call.
-#[derive(Drop)]
+#[derive(Clone, Copy)]
 pub enum Verdict {
     Passed,
     Failed(Cause),
 }
 
 // How many numbers the lists have that are lent to be written: answer, channel list, both lists of the work area.
-#[derive(Drop)]
+#[derive(Clone, Copy)]
 pub struct Lent {
     pub answer: usize,
     pub channel: usize,

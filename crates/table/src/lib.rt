@@ -1,4 +1,6 @@
 // Document 01's table of causes for turning a burst away: a function a row, and all rows from the top.
+#![tactic(auto)]
+
 mod causes;
 mod refusal;
 mod rows;

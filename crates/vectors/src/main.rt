@@ -1,12 +1,14 @@
 // Replays stored answers of the Rust: each line of standard input has a function's code, two arguments and the answer, as
 // hexadecimal bits. Prints how many lines it read and how many answers differ.
+#![tactic(auto)]
+
 mod answers;
 mod line;
 
 ghost use Rattle.std.specs.Prelude.{◌+◌, ◌≤◌, ◌<◌};
 
 // What was counted so far.
-#[derive(Drop)]
+#[derive(Clone, Copy)]
 struct Tally {
     read: u64,
     differ: u64,

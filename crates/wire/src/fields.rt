@@ -4,7 +4,7 @@ ghost use Rattle.wire.specs.Record as spec;
 
 use words::byte_at;
 
-#[derive(Drop)]
+#[derive(Clone, Copy)]
 pub struct Fields {
     pub layout: u32,
     pub constellation: u32,

@@ -1,4 +1,6 @@
 // The burst record of document 01 in bytes: its fields and numbers read, its shape judged; and an answer in bytes.
+#![tactic(auto)]
+
 mod answer;
 mod fields;
 mod read;

@@ -9,7 +9,7 @@ ghost use Rattle.wire.specs.Shape.{bad_record, bad_length, shape_refusal, bits_o
 use crate::fields::{Fields, fields_of, head};
 
 // Carriers, data cells, cells of the grid, bits.
-#[derive(Drop)]
+#[derive(Clone, Copy)]
 pub struct Sizes {
     pub nc: usize,
     pub ncell: usize,

@@ -1,4 +1,6 @@
 // Numbers in bytes, the most significant byte first.
+#![tactic(auto)]
+
 ghost use Rattle.std.specs.Prelude.{◌≡◌, ◌+◌, ◌<◌, ◌≤◌, ◌^◌, length, get_or};
 ghost use Rattle.words.specs.Bytes.{word_at, word};
 

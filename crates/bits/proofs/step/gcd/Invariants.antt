@@ -1,0 +1,10 @@
+use Rattle.std.proofs.Common.{◌≡◌, sym, refl, ap, ◌∙◌, mod-lt, arith}
+use Rattle.bits.specs.Step.{gcd}
+use Rattle.bits.proofs.Divisors.{gcd_step, gcd_end}
+use Rattle.bits.proofs.step.gcd.Given as goal
+
+abbrev pub invariant-loop-y : goal.invariant-loop-y
+invariant-loop-y l = gcd l.x l.y ≡ gcd l.a l.b
+
+abbrev pub decreases-loop-y : goal.decreases-loop-y
+decreases-loop-y l = l.y

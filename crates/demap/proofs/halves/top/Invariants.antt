@@ -1,0 +1,16 @@
+use Prim.Native.Nat.{◌≤◌, ◌-◌}
+use mathlib.Core.Path.{◌≡◌, ◌∙◌}
+use borrow.Author.Rules.{rules}
+use native.Mathlib.Omega.{arith}
+use Rattle.seq.specs.Loop.{for}
+use Rattle.seq.specs.Loop.Laws.{for_none, for_step, for_end}
+use Rattle.points.proofs.Counts.{at_most_64}
+use Rattle.demap.specs.Demap.{lowest, top_turn, top_of}
+use Rattle.demap.proofs.Constants.{constants}
+use Rattle.demap.proofs.halves.top.Given as goal
+
+abbrev pub invariant-loop-k : goal.invariant-loop-k
+invariant-loop-k l = (l.k ≤ l.n) × (l.n ≤ 64) × (l.m ≡ for 0 l.k (top_turn l.d l.bps l.b l.bit) lowest)
+
+abbrev pub decreases-loop-k : goal.decreases-loop-k
+decreases-loop-k l = l.n - l.k

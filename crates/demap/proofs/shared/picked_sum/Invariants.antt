@@ -1,0 +1,16 @@
+use Prim.Native.Nat.{◌≤◌, ◌-◌}
+use mathlib.Core.Path.{◌≡◌}
+use borrow.Author.Rules.{rules}
+use native.Mathlib.Omega.{arith}
+use Rattle.seq.specs.Loop.{for}
+use Rattle.seq.specs.Loop.Laws.{for_none, for_step, for_end}
+use Rattle.ieee.specs.Num.{zero32}
+use Rattle.points.proofs.Counts.{at_most_64}
+use Rattle.demap.specs.Shared.{pick_turn, picked_of}
+use Rattle.demap.proofs.shared.picked_sum.Given as goal
+
+abbrev pub invariant-loop-k : goal.invariant-loop-k
+invariant-loop-k l = (l.k ≤ l.n) × (l.n ≤ 64) × (l.s ≡ for 0 l.k (pick_turn l.e l.bps l.b l.bit) zero32)
+
+abbrev pub decreases-loop-k : goal.decreases-loop-k
+decreases-loop-k l = l.n - l.k

@@ -1,0 +1,75 @@
+-- `elementary::exp` meets its contract. Assumes nothing.
+use Rattle.std.proofs.Common.{◌≡◌, ℕ, ◌*◌, ◌/◌, ◌^◌, ◌≤◌, false, T, sym, ap, ◌∙◌, subst, le_trans, arith, lit≤, le→leb}
+use lib.Ieee.{Float, binary32, fits, of_bits, to_bits, lt, in_float, round}
+use lib.Ieee.Bits.{of_bits-to_bits}
+use lib.Ieee.Compare.{differs_from_itself}
+use Rattle.elementary.specs.Constants.{minus87}
+use Rattle.elementary.specs.Domain.{Number}
+use Rattle.elementary.specs.FixedPoint.{M, L, whole_of}
+use Rattle.elementary.specs.Exp.{exp_fixed, exp_at}
+use Rattle.ieee.proofs.Floats.{is_no_nan, quotient_nan}
+use Rattle.elementary.proofs.WholePart.{Bounded, bounded, whole_le, field_le}
+use Rattle.elementary.proofs.PowerScale.{power_no_nan, scaled}
+use Rattle.elementary.proofs.ExpCases.{exp_nan, exp_below, exp_from, exp_fixed_lem}
+use Rattle.elementary.proofs.exponential.exp.Goals as goal
+use Rattle.elementary.proofs.exponential.exp.Goals.{After-fixed_bits-q, Else-x, Else-x-2, Start}
+
+held : (c : Start) → T (fits binary32 c.args.x)
+held c = subst T (sym c.well_formed.0.1) tt
+
+back : (c : Start) → of_bits binary32 (to_bits binary32 c.args.x) ≡ c.args.x
+back c = of_bits-to_bits binary32 c.args.x (held c)
+
+no_nan : (c : Else-x) → Number c.args.x
+no_nan c = is_no_nan c.args.x c.if-x.false
+
+above_least : (c : Else-x-2) → lt c.args.x minus87 ≡ false
+above_least c = c.if-x-2.false
+
+sure : (c : Else-x-2) → Bounded c.args.x
+sure c = bounded c.args.x (no_nan c.before) c.requires (above_least c)
+
+size : (c : After-fixed_bits-q) → c.fixed_bits-q.result ≡ whole_of M c.args.x
+size c = c.fixed_bits-q.ensures ∙ ap (whole_of M) (back c.before.before.before)
+
+most : (c : After-fixed_bits-q) → c.fixed_bits-q.result ≤ 87 * M
+most c = subst (λ (q : ℕ). q ≤ 87 * M) (sym (size c)) (whole_le c.args.x (sure c.before))
+
+turns : (q : ℕ) → q ≤ 87 * M → q / L ≤ 125
+turns q h = omega arith
+
+pub returns-then-x : goal.returns-then-x
+returns-then-x c = quotient_nan ∙ sym (ap exp_at (differs_from_itself c.args.x (subst T (sym c.if-x.true) tt)) ∙ exp_nan)
+
+pub returns-then-x-2 : goal.returns-then-x-2
+returns-then-x-2 c = sym (exp_below c.args.x (no_nan c.before) c.if-x-2.true)
+
+pub float_to_bits-x : goal.float_to_bits-x
+float_to_bits-x c = no_nan c.before
+
+pub fixed_bits-q-requires : goal.fixed_bits-q-requires
+fixed_bits-q-requires c =
+    let b = to_bits binary32 c.args.x in
+    field_le b (subst (λ (x : Float). Number x) (sym (back c.before.before)) (no_nan c.before)) (subst (λ (x : Float). Bounded x) (sym (back c.before.before)) (sure c))
+
+pub int_to_float-p : goal.int_to_float-p
+unfolding in_float
+int_to_float-p c = le→leb c.horner-p.result (2 ^ 53) (le_trans c.horner-p.ensures.1.1 (lit≤ tt))
+
+pub overflow_sub-n : goal.overflow_sub-n
+overflow_sub-n c = omega (arith, turns c.fixed_bits-q.result (most c.before.before.before))
+
+pub float_from_bits-n : goal.float_from_bits-n
+float_from_bits-n c = power_no_nan (c.fixed_bits-q.result / L) (turns c.fixed_bits-q.result (most c.before.before.before))
+
+pub returns : goal.returns
+returns c =
+    let h = c.horner-p in
+    let w = c.before.before.before in
+    let q = w.fixed_bits-q.result in
+    let n = q / L in
+    let x = c.args.x in
+    c.narrow.ensures
+    ∙ scaled h.result n h.ensures.1.0 h.ensures.1.1 (turns q (most w))
+    ∙ ap (λ (p : ℕ). round binary32 false p (M * 2 ^ n)) h.ensures.0
+    ∙ sym (exp_from x (sure w.before).0 (above_least w.before) ∙ ap exp_fixed (sym (size w)) ∙ exp_fixed_lem q)

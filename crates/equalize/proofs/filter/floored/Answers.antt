@@ -1,0 +1,8 @@
+-- `filter::floored` is the definition's line.
+use borrow.Author.Rules.{rules}
+use Rattle.equalize.specs.Filter.{floored_of}
+use Rattle.equalize.proofs.filter.floored.Goals as goal
+
+pub returns : goal.returns
+unfolding floored_of
+returns c = c.max32.ensures

@@ -1,0 +1,8 @@
+-- `filter::mean_gain` is the definition's line.
+use borrow.Author.Rules.{rules}
+use Rattle.equalize.specs.Filter.{mu_of}
+use Rattle.equalize.proofs.filter.mean_gain.Goals as goal
+
+pub returns : goal.returns
+unfolding mu_of
+returns c = rw (c.max32.ensures, c.mean.ensures)

@@ -1,0 +1,15 @@
+use Prim.Native.Nat.{◌≤◌, ◌-◌, zero-le}
+use mathlib.Core.Path.{◌≡◌, ◌∙◌}
+use native.Mathlib.Omega.{arith}
+use borrow.Author.Rules.{rules}
+use lib.ListN.{length}
+use Rattle.seq.specs.Loop.Laws.{for_none, for_step, for_end}
+use Rattle.header.specs.Check.{register}
+use Rattle.header.proofs.Register.{registered}
+use Rattle.header.proofs.check.crc16.Given as goal
+
+abbrev pub invariant-loop-i : goal.invariant-loop-i
+invariant-loop-i l = (l.i ≤ length l.bits) × (l.crc ≡ register l.bits l.i)
+
+abbrev pub decreases-loop-i : goal.decreases-loop-i
+decreases-loop-i l = length l.bits - l.i

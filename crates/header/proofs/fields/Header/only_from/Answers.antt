@@ -1,0 +1,9 @@
+-- `Header::only_from` meets its contract.
+use mathlib.Core.Path.{refl}
+use Rattle.header.specs.Fields.{only_from}
+use borrow.Author.Rules.{rules}
+use Rattle.header.proofs.fields.Header.only_from.Goals as goal
+
+pub returns : goal.returns
+unfolding only_from
+returns c = refl

@@ -1,0 +1,18 @@
+use Prim.Native.Nat.{ℕ, ◌+◌, ◌-◌, ◌*◌, ◌^◌, ◌≤◌, ◌<◌}
+use native.Mathlib.Nat.{mul-le-mul, lt_of_le_of_lt}
+use native.Mathlib.Omega.{arith}
+use lib.Dec.{lit<}
+use Rattle.ieee.proofs.Root.{small_root1, at_least_one1, again1, near_of1}
+use Rattle.ieee.proofs.root32.settle32.Given as goal
+
+abbrev pub invariant-loop-r : goal.invariant-loop-r
+invariant-loop-r l = l.r ≤ 2 ^ 24
+
+abbrev pub decreases-loop-r : goal.decreases-loop-r
+decreases-loop-r l = 2 ^ 24 - l.r
+
+abbrev pub invariant-loop-r-2 : goal.invariant-loop-r-2
+invariant-loop-r-2 l = (l.r ≤ 2 ^ 24) × (l.s ≤ l.r * (l.r + 1))
+
+abbrev pub decreases-loop-r-2 : goal.decreases-loop-r-2
+decreases-loop-r-2 l = l.r

@@ -1,0 +1,30 @@
+-- `ieee::sqrt32` meets its contract: by what the pattern looks like. Assumes nothing.
+use mathlib.Core.Path.{sym, ◌∙◌, subst}
+use borrow.Author.Rules.{rules}
+use lib.Dec.{T}
+use lib.Ieee.{binary32, fits}
+use Rattle.ieee.proofs.Floats.{is_no_nan, quotient_nan}
+use Rattle.ieee.proofs.RootCases.{at_nan, at_zero, of_pattern, at_high, at_negative}
+use Rattle.ieee.proofs.root32.sqrt32.Goals as goal
+use Rattle.ieee.proofs.root32.sqrt32.Goals.{Start}
+
+held : (c : Start) → T (fits binary32 c.args.x)
+held c = subst T (sym c.well_formed.0.1) tt
+
+pub returns-then-x : goal.returns-then-x
+returns-then-x c = at_nan binary32 c.args.x (held c.before) c.if-x.true
+
+pub float_to_bits-b : goal.float_to_bits-b
+float_to_bits-b c = is_no_nan c.args.x c.if-x.false
+
+pub returns-then-b-eq0 : goal.returns-then-b-eq0
+returns-then-b-eq0 c = at_zero binary32 c.args.x (held c.before.before) c.if-b-eq0.true
+
+pub returns-then-b-lt2139095040 : goal.returns-then-b-lt2139095040
+returns-then-b-lt2139095040 c = of_pattern binary32 c.args.x (held c.before.before.before.before) _ c.root_bits32.ensures.0.0
+
+pub returns-then-b-le2147483648 : goal.returns-then-b-le2147483648
+returns-then-b-le2147483648 c = at_high binary32 c.args.x (held c.before.before.before.before) c.if-x.false c.if-b-lt2139095040.false c.if-b-le2147483648.true
+
+pub returns : goal.returns
+returns c = quotient_nan ∙ sym (at_negative binary32 c.args.x (held c.before.before.before.before) c.if-x.false c.if-b-le2147483648.false)

@@ -1,0 +1,17 @@
+use mathlib.Core.Path.{subst}
+use Prim.Native.Nat.{ℕ, ◌+◌, ◌-◌, ◌*◌, ◌^◌, ◌≤◌, ◌<◌}
+use native.Mathlib.Omega.{arith}
+use Rattle.ieee.proofs.Root.{small_root, above_test, at_least_one, near_of_lem}
+use Rattle.ieee.proofs.root64.settle.Given as goal
+
+abbrev pub invariant-loop-r : goal.invariant-loop-r
+invariant-loop-r l = l.r ≤ 2 ^ 53
+
+abbrev pub decreases-loop-r : goal.decreases-loop-r
+decreases-loop-r l = 2 ^ 53 - l.r
+
+abbrev pub invariant-loop-r-2 : goal.invariant-loop-r-2
+invariant-loop-r-2 l = (l.r ≤ 2 ^ 53) × (l.m * 2 ^ 52 ≤ l.r * (l.r + 1))
+
+abbrev pub decreases-loop-r-2 : goal.decreases-loop-r-2
+decreases-loop-r-2 l = l.r

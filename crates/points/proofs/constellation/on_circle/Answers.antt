@@ -1,0 +1,23 @@
+-- `on_circle` asks sin and cos for an angle that they take.
+use borrow.Author.Rules.{rules}
+use native.Mathlib.Omega.{arith}
+use Rattle.points.specs.Constellation.{angle, circle_point}
+use Rattle.ieee.proofs.Floats.{counted}
+use Rattle.points.proofs.Angles.{angle_in_turns}
+use Rattle.points.proofs.constellation.on_circle.Goals as goal
+
+pub int_to_float-a : goal.int_to_float-a
+int_to_float-a c = counted _ _ (omega arith)
+
+pub cos-requires : goal.cos-requires
+unfolding angle
+cos-requires c = angle_in_turns c.args.m c.requires
+
+pub sin-requires : goal.sin-requires
+unfolding angle
+sin-requires c = angle_in_turns c.args.m c.requires
+
+pub returns : goal.returns
+unfolding circle_point angle
+returns c =
+    rw (c.new.ensures, c.narrow-2.ensures, c.sin.ensures, c.narrow.ensures, c.cos.ensures)

@@ -1,0 +1,17 @@
+use Prim.Native.Nat.{◌*◌, ◌≤◌, ◌-◌}
+use mathlib.Core.Path.{◌≡◌, ap}
+use borrow.Author.Rules.{rules}
+use native.Mathlib.Omega.{arith}
+use Rattle.seq.specs.Loop.{for}
+use Rattle.seq.specs.Loop.Laws.{for_none, for_step, for_end}
+use mathlib.Core.List.{List}
+use lib.Ieee.{Float}
+use Rattle.points.specs.Table.{blank}
+use Rattle.points.specs.Constellation.{qam_row, qam_of}
+use Rattle.points.proofs.constellation.qam.Given as goal
+
+abbrev pub invariant-loop-i : goal.invariant-loop-i
+invariant-loop-i l = (l.i ≤ l.m) × (l.pts ≡ for 0 l.i (qam_row l.b) blank)
+
+abbrev pub decreases-loop-i : goal.decreases-loop-i
+decreases-loop-i l = l.m - l.i

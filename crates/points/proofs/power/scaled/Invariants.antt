@@ -1,0 +1,13 @@
+use Prim.Native.Nat.{◌≤◌, ◌-◌}
+use mathlib.Core.Path.{◌≡◌}
+use borrow.Author.Rules.{rules}
+use Rattle.seq.specs.Loop.{for}
+use Rattle.seq.specs.Loop.Laws.{for_none, for_step, for_end}
+use Rattle.points.specs.Power.{scale_turn, scaled_of}
+use Rattle.points.proofs.power.scaled.Given as goal
+
+abbrev pub invariant-loop-k : goal.invariant-loop-k
+invariant-loop-k l = (l.k ≤ 64) × (l.out ≡ for 0 l.k (scale_turn l.gain) l.pts)
+
+abbrev pub decreases-loop-k : goal.decreases-loop-k
+decreases-loop-k l = 64 - l.k

@@ -1,0 +1,21 @@
+-- `split` writes the next level by twos.
+use Prim.Native.Nat.{◌*◌, ◌-◌, ◌≤◌}
+use mathlib.Core.Path.{◌≡◌}
+use mathlib.Core.List.{◌++◌}
+use borrow.Author.Rules.{rules}
+use native.Mathlib.Omega.{arith}
+use lib.ListN.{drop}
+use Rattle.seq.specs.Tab.{tab}
+use Rattle.seq.specs.Tab.Laws.{tab_none}
+use Rattle.soft.specs.Tree.{page, child}
+use Rattle.soft.proofs.Prefix.{length_page, two_more, written}
+use Rattle.soft.proofs.labels.split.Goals as goal
+
+pub loop-i-init : goal.loop-i-init
+loop-i-init c = (search rules, rw c.page-out.ensures (tab_none _ page))
+
+pub loop-i-preserved : goal.loop-i-preserved
+loop-i-preserved c = (search rules, two_more _ _ _ c.loop-i.i page _ (omega (arith, length_page)) c.loop-i.invariant.1)
+
+pub returns : goal.returns
+returns c = written _ _ _ c.loop-i.i _ page _ (search rules) (search rules) c.loop-i.invariant.1

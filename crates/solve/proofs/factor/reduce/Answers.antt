@@ -1,0 +1,19 @@
+-- `solve::reduce` meets its contract. The invariant: s is what the products below p leave of the element. Assumes nothing.
+use Prim.Native.Nat.{◌≤◌, ◌-◌}
+use mathlib.Core.Path.{◌≡◌, ◌∙◌}
+use native.Mathlib.Omega.{arith}
+use borrow.Author.Rules.{rules}
+use Rattle.seq.specs.Loop.{for}
+use Rattle.seq.specs.Loop.Laws.{for_none, for_step, for_end}
+use Rattle.solve.specs.Solve.{at2, minus_rows, reduced}
+use Rattle.solve.proofs.factor.reduce.Goals as goal
+
+pub loop-p-init : goal.loop-p-init
+loop-p-init c = (search rules, c.get-s.ensures ∙ for_none _ 0 _)
+
+pub loop-p-preserved : goal.loop-p-preserved
+loop-p-preserved c = (omega arith, for_step _ 0 _ _ _ _ (omega arith) c.loop-p.invariant.1 (rw (c.get.ensures, c.get-in-loop-p.ensures)))
+
+pub returns : goal.returns
+unfolding reduced
+returns c = for_end _ 0 _ _ _ _ (omega arith) (omega arith) c.loop-p.invariant.1

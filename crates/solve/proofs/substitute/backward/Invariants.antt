@@ -1,0 +1,14 @@
+use Prim.Native.Nat.{◌≤◌}
+use mathlib.Core.Path.{◌≡◌, refl}
+use native.Mathlib.Omega.{arith}
+use borrow.Author.Rules.{rules}
+use Rattle.seq.specs.Loop.{back}
+use Rattle.seq.specs.Loop.Laws.{back_step, back_end}
+use Rattle.solve.specs.Solve.{backward_row, backward}
+use Rattle.solve.proofs.substitute.backward.Given as goal
+
+abbrev pub invariant-loop-i : goal.invariant-loop-i
+invariant-loop-i l = (l.i ≤ l.k) × (back l.i (backward_row l.k l.a l.y) l.w ≡ back l.k (backward_row l.k l.a l.y) l.initial.w)
+
+abbrev pub decreases-loop-i : goal.decreases-loop-i
+decreases-loop-i l = l.i

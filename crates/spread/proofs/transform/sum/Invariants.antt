@@ -1,0 +1,19 @@
+use Rattle.std.specs.Prelude.{◌≡◌, ℕ, ◌-◌, ◌<◌, ◌≤◌}
+use mathlib.Core.Path.{ap, ap₂}
+use native.Mathlib.Omega.{arith}
+use borrow.Author.Rules.{rules}
+use Rattle.seq.specs.Loop.{for}
+use Rattle.seq.specs.Loop.Laws.{for_none, for_step, for_end}
+use Rattle.dsp.specs.declared.Complex.{Complex}
+use Rattle.spread.specs.Spreader.{Sum, start, turn, sum_of}
+use Rattle.spread.proofs.Spreading.{next_lt}
+use Rattle.spread.proofs.transform.sum.Given as goal
+
+abbrev pub state : Complex → ℕ → Sum
+state acc idx = record { acc = acc; idx = idx }
+
+abbrev pub invariant-loop-j : goal.invariant-loop-j
+invariant-loop-j l = (l.j ≤ l.m) × ((l.idx < l.m) × (state l.acc l.idx ≡ for 0 l.j (turn l.m l.tw l.inverse l.a l.k) start))
+
+abbrev pub decreases-loop-j : goal.decreases-loop-j
+decreases-loop-j l = l.m - l.j

@@ -1,0 +1,11 @@
+-- `byte_at` meets its contract.
+use mathlib.Core.Path.{refl}
+use borrow.Author.Rules.{rules}
+use native.Mathlib.Omega.{arith}
+use Rattle.words.proofs.byte_at.Goals as goal
+
+pub overflow_cast-result : goal.overflow_cast-result
+overflow_cast-result c = omega (arith, c.shared_slice_known-1.given c.args.k)
+
+pub returns : goal.returns
+returns c = (refl, omega (arith, c.shared_slice_known-1.given c.args.k))
