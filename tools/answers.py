@@ -64,9 +64,14 @@ class Turn:
             parts = m[0].split(".")
             for i in range(1, len(parts)):
                 n = norm(parts[i])
+                if n not in self.steps and n.endswith("_lem"):
+                    n = n[:-4]
                 if n not in self.steps or parts[i - 1] not in ("before", parts[0]) or (i > 1 and parts[i - 1] != "before"):
                     continue
                 new = self.steps[n]
+                facts = {"ensures", "result", "new", "auto", "true", "false", "given", "invariant", "type_inv", "lifetimes", "branch"}
+                if parts[0] != "c" and parts[i - 1] != "before" and not (i + 1 < len(parts) and (parts[i + 1] in facts or new.startswith("loop-"))):
+                    continue
                 # a place that bears a variable's name: only right behind the goal's own record
                 if parts[0] != "c" and re.fullmatch(re.escape(parts[i].replace("-", "_")) + r"-\d+", new.replace("-", "_", new.count("-") - 1)):
                     continue
@@ -133,6 +138,23 @@ class Turn:
 
             text = re.sub(edge + f"({names}) {re.escape(w)}((?:\\.before)*)" + end, again, text)
         return text
+
+    def params_fix(self, text, root):
+        """What a call left of its arguments, `.new` and `.auto`, goes by their names."""
+        steps = {root + "." + st: callee for st, callee in self.callees.items()}
+        for m in re.finditer(r"let (\S+) = " + re.escape(root) + r"\.([\w-]+) in", text):
+            if m[2] in self.callees:
+                steps[m[1]] = self.callees[m[2]]
+
+        def name(m):
+            ps = self.info["params"].get(steps.get(m[1]), [])
+            k = m[3].count("1")
+            return f"{m[1]}.{m[2]}.{ps[k]}" if k < len(ps) else m[0]
+
+        heads = "|".join(map(re.escape, sorted(steps, key=len, reverse=True)))
+        if not heads:
+            return text
+        return re.sub(rf"(?<![^\s(){{}};,])({heads})\.(auto|new)((?:\.[01])+)", name, text)
 
     def flat(self, text, root):
         """Each place holds what the places before it hold: a whole place that is handed on is the goal's own record."""
@@ -347,6 +369,12 @@ def main():
                     body = f" λ {' '.join(more)}.{body}"
                 # what a goal knows is one record more than its place
                 body = t.flat(body, p0)
+                body = t.params_fix(body, p0)
+                # a test of what a call answered says of the answer itself
+                called = {c.split("::")[-1] for c in info["params"]}
+                def plain(m):
+                    return m[2] if re.sub(r"-\d+$", "", m[3]) in called else m[0]
+                body = re.sub(r"\(not-(?:true|false) _ ((c\.if-not-([\w-]+)\.(?:true|false)))\)", plain, body)
                 arm = re.search(r"-(in-[A-Za-z_]+)", new)
                 if arm:
                     body = re.sub(r"(?<![\w.])c\.[\w-]+\.given\.1", f"c.{arm[1]}.is", body)

@@ -49,23 +49,23 @@ returns-2 : tie.Need-returns-2
 returns-2 c = search rules
 
 array-share-prefix-rec : tie.Need-array-share-prefix-rec
-array-share-prefix-rec c = c.before.before.before.before.before.before.read.ensures c.before.before.before.before.if1.false
+array-share-prefix-rec c = c.before.before.before.before.before.before.read.ensures (not-false _ c.before.before.before.before.if1.false)
 
 slice-aggregate-agrees : tie.Need-slice-aggregate-agrees
 slice-aggregate-agrees c =
     let p = c.before.before.before.before.before.before.before.read in
-    sym (length-take-le _ p.new.1.0 (p.ensures c.before.before.before.before.before.if1.false))
+    sym (length-take-le _ p.new.1.0 (p.ensures (not-false _ c.before.before.before.before.before.if1.false)))
 
 element-copy-out-agrees : tie.Need-element-copy-out-agrees
 element-copy-out-agrees c = search rules
 
 array-share-prefix-answer : tie.Need-array-share-prefix-answer
-array-share-prefix-answer c = c.before.before.before.before.read2.ensures c.before.before.if2.false
+array-share-prefix-answer c = c.before.before.before.before.read2.ensures (not-false _ c.before.before.if2.false)
 
 slice-aggregate-agrees-2 : tie.Need-slice-aggregate-agrees-2
 slice-aggregate-agrees-2 c =
     let p = c.before.before.before.before.before.read2 in
-    sym (length-take-le _ p.new.1.0 (p.ensures c.before.before.before.if2.false))
+    sym (length-take-le _ p.new.1.0 (p.ensures (not-false _ c.before.before.before.if2.false)))
 
 agrees-requires : tie.Need-agrees-requires
 agrees-requires c κs = search rules

@@ -14,7 +14,7 @@ pub returns-then-not-is_finite : goal.returns-then-not-is_finite
 returns-then-not-is_finite c = bad_sample _ _ _ c.if-code-gt3.false (sym c.if-not-is_finite.true ∙ c.is_finite.ensures)
 
 pub returns-then-not-is_finite-2 : goal.returns-then-not-is_finite-2
-returns-then-not-is_finite-2 c = bad_channel _ _ _ c.if-code-gt3.false (sym (not-false _ c.if-not-is_finite.false) ∙ c.is_finite.ensures) (sym c.if-not-is_finite-2.true ∙ c.is_finite-2.ensures)
+returns-then-not-is_finite-2 c = bad_channel _ _ _ c.if-code-gt3.false (sym c.if-not-is_finite.false ∙ c.is_finite.ensures) (sym c.if-not-is_finite-2.true ∙ c.is_finite-2.ensures)
 
 pub decide-requires : goal.decide-requires
 decide-requires c =
@@ -24,5 +24,5 @@ decide-requires c =
 pub returns : goal.returns
 unfolding point_for
 returns c =
-    decided _ _ _ c.if-code-gt3.false (sym (not-false _ c.if-not-is_finite.false) ∙ c.is_finite.ensures) (sym (not-false _ c.if-not-is_finite-2.false) ∙ c.is_finite-2.ensures) _
+    decided _ _ _ c.if-code-gt3.false (sym c.if-not-is_finite.false ∙ c.is_finite.ensures) (sym c.if-not-is_finite-2.false ∙ c.is_finite-2.ensures) _
     (rw (← c.points-p.ensures) c.decide.ensures)

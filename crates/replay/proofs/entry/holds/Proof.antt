@@ -48,7 +48,7 @@ same-requires-2 c κs = search rules
 returns-4 : tie.Need-returns-4
 returns-4 c = λ e.
     let s = c.before.before.before.before.before.before.before.before.before.before.before.args in
-    joined s.out.now s.answer.now s.page.now _ refl (c.before.before.before.before.same.ensures.0 c.before.before.before.if3.false) (c.same2.ensures.0 e)
+    joined s.out.now s.answer.now s.page.now _ refl (c.before.before.before.before.same.ensures.0 (not-false _ c.before.before.before.if3.false)) (c.same2.ensures.0 e)
 
 pub holds-spec : {M : Type 1} → statement M
 holds-spec =

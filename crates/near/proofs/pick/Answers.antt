@@ -1,0 +1,17 @@
+-- `pick` meets its contract: it walks from where the window's first symbol starts to where its last one ends.
+use Rattle.near.proofs.Walks.{span, picked}
+use borrow.Author.Rules.{rules}
+use Rattle.near.proofs.pick.Goals as goal
+
+pub pick_in-requires : goal.pick_in-requires
+pick_in-requires c =
+    let s = c.args in
+    let p = c.requires in
+    (span s.q s.w s.pc.now s.pg.now s.pf.now s.start.now p.loaded p.asked _ _ _ _ _ c.low-g.ensures c.high.ensures c.start_of-lo.ensures c.start_of-mid.ensures c.start_of-hi.ensures, p.asked.some, p.asked.most, p.room)
+
+pub returns : goal.returns
+returns c =
+    let s = c.args in
+    let p = c.requires in
+    let r = c.pick_in.ensures in
+    record { most = r.most; same = picked s.q s.w s.pc.now s.pg.now s.pf.now s.start.now p.loaded p.asked _ _ _ _ _ c.low-g.ensures c.high.ensures c.start_of-lo.ensures c.start_of-mid.ensures c.start_of-hi.ensures s.x _ r.same }

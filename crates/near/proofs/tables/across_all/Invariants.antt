@@ -1,0 +1,16 @@
+use Prim.Native.Nat.{◌-◌, ◌≤◌}
+use mathlib.Core.Path.{◌≡◌}
+use mathlib.Core.List.{◌++◌}
+use native.Mathlib.Omega.{arith}
+use borrow.Author.Rules.{rules}
+use lib.ListN.{length, drop, length-set}
+use Rattle.seq.specs.Tab.{tab}
+use Rattle.seq.specs.Tab.Laws.{tab_none, tab_step, tab_end}
+use Rattle.near.specs.Walk.{across}
+use Rattle.near.proofs.tables.across_all.Given as goal
+
+abbrev pub invariant-loop-c : goal.invariant-loop-c
+invariant-loop-c l = (l.c ≤ l.n) × (length l.t ≡ length l.initial.t) × (l.t ≡ tab l.c (across l.q) ++ drop l.c l.initial.t)
+
+abbrev pub decreases-loop-c : goal.decreases-loop-c
+decreases-loop-c l = l.n - l.c

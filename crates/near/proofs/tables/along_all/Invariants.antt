@@ -1,0 +1,16 @@
+use Prim.Native.Nat.{ℕ, ◌+◌, ◌-◌, ◌≤◌}
+use mathlib.Core.Path.{◌≡◌}
+use mathlib.Core.List.{◌++◌}
+use native.Mathlib.Omega.{arith}
+use borrow.Author.Rules.{rules}
+use lib.ListN.{length, drop, length-set}
+use Rattle.seq.specs.Tab.{tab}
+use Rattle.seq.specs.Tab.Laws.{tab_none, tab_step, tab_end}
+use Rattle.near.specs.Walk.{along}
+use Rattle.near.proofs.tables.along_all.Given as goal
+
+abbrev pub invariant-loop-j : goal.invariant-loop-j
+invariant-loop-j l = (l.j ≤ l.n) × (length l.t ≡ length l.initial.t) × (l.t ≡ tab l.j (λ (i : ℕ). along l.q (l.g + i)) ++ drop l.j l.initial.t)
+
+abbrev pub decreases-loop-j : goal.decreases-loop-j
+decreases-loop-j l = l.n - l.j

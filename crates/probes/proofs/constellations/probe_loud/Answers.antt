@@ -1,0 +1,6 @@
+-- `probes::probe_loud` meets its contract.
+use borrow.Author.Rules.{rules}
+use Rattle.probes.proofs.constellations.probe_loud.Goals as goal
+
+pub returns : goal.returns
+returns c = rw (← c.new.ensures) c.loud.ensures

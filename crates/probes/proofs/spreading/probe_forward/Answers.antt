@@ -1,0 +1,23 @@
+-- `probes::probe_forward` meets its contract.
+use Prim.Native.Nat.{◌*◌}
+use native.Mathlib.Omega.{arith}
+use lib.ListN.{length}
+use borrow.Author.Tests.{le-leb, lt-leb}
+use borrow.Author.Rules.{rules}
+use Rattle.probes.proofs.Puts.{nothing_put, all_put}
+use Rattle.probes.proofs.spreading.probe_forward.Goals as goal
+
+pub returns-then-m-gt109 : goal.returns-then-m-gt109
+returns-then-m-gt109 c =
+    let a = c.args in
+    nothing_put _ _ _ _ (rw (lt-leb a.m 109 (omega arith)))
+
+pub returns-then-v-m : goal.returns-then-v-m
+returns-then-v-m c =
+    let a = c.args in
+    nothing_put _ _ _ _ (rw (le-leb a.m 109 (omega arith), lt-leb (2 * a.m) (length a.v.now) (omega arith)))
+
+pub returns : goal.returns
+returns c =
+    let a = c.args in
+    all_put _ _ _ _ _ (rw (le-leb a.m 109 (omega arith), le-leb (2 * a.m) (length a.v.now) (omega arith))) c.forward.ensures
