@@ -187,7 +187,7 @@ class Turn:
                 def put(m):
                     sub = lambda x: re.sub(r"(?<![^\s(){};,@\"«»\[])" + re.escape(param) + r"(?=[\s(){};,.]|$)", root, x)
                     b = " ".join(sub(body).split())
-                    if re.match(r"(?:omega|search|simp|cc|grind|rw|let|subst)\b", b):
+                    if re.search(r"(?<![^\s(),])_(?![^\s(),])", b) or re.match(r"(?:omega|search|simp|cc|grind|rw|let|subst)\b", b):
                         return f"(let h : {' '.join(sub(ty).split())} = {b} in h)"
                     return f"({b})"
                 text = re.sub(r"(?<![^\s(){};,@\"«»\[])" + re.escape(h) + rf" (?:{roots})(?:\.before)*(?![^\s(){{}};,.])", put, text)

@@ -1,0 +1,11 @@
+use Rattle.seq.specs.Loop.{for}
+use Rattle.seq.specs.Loop.Laws.{for_none, for_step, for_end}
+use Rattle.est.specs.Covariance.{zeros2, row_var, cov_of}
+use Rattle.std.proofs.Common.{◌≡◌, ◌-◌, ◌≤◌, length, refl, arith, rules}
+use Rattle.est.proofs.covariance.cov_fill.Given as goal
+
+abbrev pub invariant-loop-i : goal.invariant-loop-i
+invariant-loop-i l = (l.i ≤ l.i-end) × (l.i-end ≡ length l.cs) × (l.a ≡ for 0 l.i (row_var l.m l.rf l.rt l.cs l.gs l.vs) zeros2)
+
+abbrev pub decreases-loop-i : goal.decreases-loop-i
+decreases-loop-i l = l.i-end - l.i

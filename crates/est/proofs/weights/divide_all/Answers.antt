@@ -1,0 +1,17 @@
+-- `divide_all` meets its contract.
+use Rattle.seq.specs.Loop.{for}
+use Rattle.seq.specs.Loop.Laws.{for_none, for_step, for_end}
+use Rattle.est.specs.Weights.{over, divide_all}
+use Rattle.std.proofs.Common.{◌≡◌, ◌-◌, ◌≤◌, refl, arith, rules}
+use Rattle.est.proofs.weights.divide_all.Goals as goal
+
+pub loop-i-init : goal.loop-i-init
+loop-i-init c = (omega arith, for_none _ _ _)
+
+pub loop-i-preserved : goal.loop-i-preserved
+unfolding over
+loop-i-preserved c = (omega arith, for_step _ _ _ _ _ _ (omega arith) c.loop-i.invariant.1 refl)
+
+pub returns : goal.returns
+unfolding divide_all
+returns c = for_end _ _ _ _ _ _ (omega arith) (omega arith) c.loop-i.invariant.1

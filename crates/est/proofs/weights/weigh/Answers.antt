@@ -1,0 +1,8 @@
+-- `weigh` meets its contract.
+use Rattle.est.specs.Estimate.{weights}
+use Rattle.std.proofs.Common.{rules}
+use Rattle.est.proofs.weights.weigh.Goals as goal
+
+pub returns : goal.returns
+unfolding weights
+returns c = (c.rhs_fill.ensures, c.cov_fill.ensures, rw (c.rescale.ensures, c.solve_spd-w.ensures.1, c.cov_fill.ensures, c.rhs_fill.ensures))
