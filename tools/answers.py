@@ -28,15 +28,88 @@ def blocks(text):
             merged.append(b)
     return merged
 
+def clauses():
+    """The names of a function's `requires` clauses, where it has two or more: by crate, file and name."""
+    out = {}
+    for top, _, files in os.walk("/work/main/crates"):
+        m = re.match(r"/work/main/crates/(\w+)/src(?:/(.*))?$", top)
+        if not m:
+            continue
+        for f in files:
+            if not f.endswith(".rt"):
+                continue
+            stem = (m[2].replace("/", "::") + "::" if m[2] else "") + f[:-3]
+            stem = "" if stem in ("lib", "main") else stem + "::"
+            text = open(os.path.join(top, f), encoding="utf-8").read()
+            for x in re.finditer(r"\bfn (\w+)(?:(?!\n\{)[\s\S])*?\n\{", text):
+                ns = re.findall(r"\n    +requires (\w+) \{", x[0])
+                if len(ns) > 1:
+                    out[f"{m[1]}::{stem}{x[1]}"] = tuple(ns)
+    return out
+
+
+def clauses_of(path):
+    """Of `crate::module::Type::function` too."""
+    if path.endswith("truncating_f64_to_u64"):
+        return ("lower_bound", "upper_bound")
+    parts = path.split("::")
+    return CLAUSES.get(path) or CLAUSES.get("::".join(p for p in parts if not p[:1].isupper()))
+
+
+def rust_words():
+    out = set()
+    for top, _, files in os.walk("/work/main/crates"):
+        if "/src" in top:
+            for f in files:
+                if f.endswith(".rt"):
+                    out.update(w.replace("_", "-") for w in re.findall(r"\b[a-z]\w*_\w+\b", open(os.path.join(top, f), encoding="utf-8").read()))
+    return out
+
+
+RUST = rust_words()
+CLAUSES = clauses()
+
+
+def as_record(body, names):
+    """(A, B) at the end of a term becomes a record of the clauses."""
+    t = body.rstrip()
+    if not t.endswith(")"):
+        return body
+    depth, i = 0, len(t)
+    while i > 0:
+        i -= 1
+        depth += (t[i] in ")]}") - (t[i] in "([{")
+        if depth == 0:
+            break
+    before, inner = t[:i], t[i + 1 : -1]
+    if before.strip() and not re.search(r"(\bin|=|\.)\s*$", before):
+        return body
+    parts, depth, cur = [], 0, ""
+    for ch in inner:
+        depth += (ch in "([{") - (ch in ")]}")
+        if ch == "," and depth == 0:
+            parts.append(cur); cur = ""
+        else:
+            cur += ch
+    if cur.strip():
+        parts.append(cur)
+    if len(parts) != len(names):
+        return body
+    fields = "; ".join(f"{n} = {' '.join(p.split())}" for n, p in zip(names, parts))
+    return f"{before}record {{ {fields} }}"
+
+
 def sub_tokens(body, table):
     return re.sub(r"(?<![^\s(){};,@\"«»\[])" + WORD, lambda m: table.get(m[0], m[0]), body)
 
 class Turn:
-    def __init__(self, info, path):
+    def __init__(self, info, path, crate):
+        self.crate = crate
         self.info = info
         self.path = path
         self.steps = {}
         self.used = set()
+        self.rust = None
         self.callees = {p[2][1]: p[3] for p in info["places"] if p[3]}
         for (place, before, pair, callee, more) in info["places"]:
             if pair[0]: self.steps[norm(pair[0])] = pair[1]
@@ -76,6 +149,23 @@ class Turn:
                 if parts[0] != "c" and re.fullmatch(re.escape(parts[i].replace("-", "_")) + r"-\d+", new.replace("-", "_", new.count("-") - 1)):
                     continue
                 parts[i] = new
+            for i in range(1, len(parts)):
+                if parts[i] in RUST:
+                    parts[i] = parts[i].replace("-", "_")
+            own = clauses_of(self.crate + "::" + self.path.replace(".", "::"))
+            if own:
+                for i in range(1, len(parts) - 1):
+                    if parts[i] == "requires" and parts[i + 1] in ("0", "1"):
+                        j = i + 1
+                        while j < len(parts) and parts[j] == "1":
+                            j += 1
+                        k = j - i - 1
+                        if k >= len(own):
+                            k = len(own) - 1; j = i + 1 + k
+                        elif j < len(parts) and parts[j] == "0" and k < len(own) - 1:
+                            j += 1
+                        parts[i + 1 : j] = [own[k]]
+                        break
             for i in range(1, len(parts) - 1):
                 # what a call keeps: by parameter
                 callee = self.callees.get(parts[i - 1])
@@ -228,7 +318,7 @@ def main():
         text = open(proof, encoding="utf-8").read()
         if "tie.close" not in text:
             print("by hand:", proof); continue
-        t = Turn(info, fpath)
+        t = Turn(info, fpath, cname)
         bs = blocks(text)
         comments, uses, decls = [], [], []
         for b in bs:
@@ -370,6 +460,10 @@ def main():
                 # what a goal knows is one record more than its place
                 body = t.flat(body, p0)
                 body = t.params_fix(body, p0)
+                for callee in info["params"]:
+                    short = callee.split("::")[-1]
+                    if re.match(re.escape(short) + r"(-|$)", new) and "requires" in new and clauses_of(callee):
+                        body = as_record(body, clauses_of(callee))
                 # a test of what a call answered says of the answer itself
                 called = {c.split("::")[-1] for c in info["params"]}
                 def plain(m):

@@ -3,9 +3,13 @@
 #![tactic(auto)]
 
 mod answers;
+mod input;
 mod line;
 
-ghost use Rattle.std.specs.Prelude.{◌+◌, ◌≤◌, ◌<◌};
+ghost use Rattle.std.specs.Prelude.{◌≡◌, ◌+◌, ◌≤◌, ◌<◌};
+
+use crate::input::filled;
+use std::io;
 
 // What was counted so far.
 #[derive(Clone, Copy)]
@@ -15,8 +19,10 @@ struct Tally {
 }
 
 fn counted(t: Tally, text: &[u8; 54]) -> Tally
-    requires { (t.read < 100000) × (t.differ < 100000) }
-    ensures { (result.read ≤ t.read + 1) × (result.differ ≤ t.differ + 1) }
+    requires read { t.read < 100000 }
+    requires differ { t.differ < 100000 }
+    ensures read { result.read ≡ t.read + 1 }
+    ensures differ { result.differ ≤ t.differ + 1 }
 {
     if line::agrees(text) {
         return Tally {
@@ -30,17 +36,16 @@ fn counted(t: Tally, text: &[u8; 54]) -> Tally
     }
 }
 
-fn main() {
+fn main(rt: HostRuntime) -> io::Result<()> {
+    let mut input = rt.stdin();
     let mut t = Tally { read: 0, differ: 0 };
     let mut text = [0u8; 54];
     for _ in 0usize..100_000 {
-        if io::read_full(0, &mut text) < 54 {
+        if !filled(&mut input, &mut text)? {
             break;
         }
         t = counted(t, &text);
     }
-    io::print_decimal(1, t.read);
-    io::write_all(1, b" answers replayed, ");
-    io::print_decimal(1, t.differ);
-    io::write_all(1, b" differ\n");
+    let Tally { read, differ } = t;
+    println!(rt; "{read} answers replayed, {differ} differ")
 }

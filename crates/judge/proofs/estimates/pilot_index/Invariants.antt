@@ -1,0 +1,17 @@
+use Prim.Native.Nat.{◌≤◌, ◌+◌, ◌-◌}
+use mathlib.Core.Path.{◌≡◌, refl, sym, ◌∙◌}
+use native.Mathlib.Omega.{arith}
+use lib.Dec.{eqb}
+use lib.ListN.{get_or}
+use borrow.Author.Tests.{eq-eqb, ne_eqb}
+use borrow.Author.Rules.{rules}
+use Rattle.load.specs.Load.{find_in}
+use Rattle.judge.specs.Cells.{index_in}
+use Rattle.judge.proofs.Finding.{find_here, find_on, find_none}
+use Rattle.judge.proofs.estimates.pilot_index.Given as goal
+
+abbrev pub invariant-loop-i : goal.invariant-loop-i
+invariant-loop-i l = (l.i ≤ l.hi) × (index_in (λ k. get_or l.pc k 0) l.start l.c l.g ≡ find_in (l.hi - l.i) l.i (λ k. eqb (get_or l.pc k 0) l.c))
+
+abbrev pub decreases-loop-i : goal.decreases-loop-i
+decreases-loop-i l = l.hi - l.i

@@ -1,0 +1,16 @@
+use Prim.Native.Nat.{◌≤◌, ◌+◌, ◌-◌, ◌*◌}
+use mathlib.Core.List.{◌++◌}
+use mathlib.Core.Path.{◌≡◌, refl}
+use native.Mathlib.Omega.{arith}
+use lib.ListN.{length-set, length, drop}
+use borrow.Author.Rules.{rules}
+use Rattle.spread.proofs.Pairs.{pairs, pairs_none, pairs_step, pairs_end}
+use Rattle.load.specs.Find.{mean_at}
+use Rattle.judge.specs.Judge.{ha}
+use Rattle.judge.proofs.spreading.channels.Given as goal
+
+abbrev pub invariant-loop-j : goal.invariant-loop-j
+invariant-loop-j l = (l.j ≤ l.dc) × (length l.h ≡ length l.initial.h) × (l.h ≡ pairs (mean_at l.row) l.j ++ drop (2 * l.j) l.initial.h)
+
+abbrev pub decreases-loop-j : goal.decreases-loop-j
+decreases-loop-j l = l.dc - l.j

@@ -1,0 +1,69 @@
+-- `despread_cells` meets its contract: before each turn the likelihoods of the symbols below j are written. Assumes nothing.
+use Prim.Native.Nat.{ℕ, ◌≤◌, ◌+◌, ◌-◌, ◌*◌}
+use mathlib.Core.List.{List, ◌++◌}
+use mathlib.Core.Path.{◌≡◌, refl, ◌∙◌}
+use native.Mathlib.Omega.{arith}
+use lib.Ieee.{Float}
+use lib.ListN.{length, drop}
+use Rattle.seq.specs.Loop.Laws.{turn_more, turn_less}
+use Rattle.seq.specs.Cat.Laws.{cat-none, lent}
+use Rattle.seq.specs.Cat.{cat}
+use Rattle.judge.specs.Judge.{answer_of, despread}
+use Rattle.judge.proofs.Rows.{row_inside, lent_long, next_fits, two_within, row_step, row_end}
+use Rattle.judge.proofs.Placed.{Lent, cell_lent}
+use Rattle.judge.proofs.Laws.{length_despread, despread_by}
+use Rattle.judge.proofs.spreading.despread_cells.Goals as goal
+use Rattle.judge.proofs.spreading.despread_cells.Tie as tie
+
+abbrev part : tie.At-loop-j goal.the-invariant-loop-j goal.the-decreases-loop-j → ℕ → List Float
+part l = let a = (begun l).args in despread a.pts.now a.bps (answer_of a.e a.z.now)
+
+part_length : (l : tie.At-loop-j goal.the-invariant-loop-j goal.the-decreases-loop-j) (k : ℕ) → length (part l k) ≡ (begun l).args.bps
+part_length l k = let a = (begun l).args in length_despread a.pts.now a.bps (answer_of a.e a.z.now) k
+
+pub loop-j-init : goal.loop-j-init
+loop-j-init c = (omega arith, refl, cat-none c.args.bps _ _)
+
+pub sample-requires : goal.sample-requires
+sample-requires c = two_within c.loop-j-test.true c.requires.2
+
+pub overflow_mul-at : goal.overflow_mul-at
+overflow_mul-at c = (cell_lent c.loop-j.j c.args.dc c.args.bps c.loop-j-test.true c.requires.0 c.requires.1).from
+
+pub overflow_add-at : goal.overflow_add-at
+overflow_add-at c = (cell_lent c.loop-j.j c.args.dc c.args.bps c.loop-j-test.true c.requires.0 c.requires.1).to
+
+pub offset_bounds-out-at : goal.offset_bounds-out-at
+offset_bounds-out-at c = (cell_lent c.loop-j.j c.args.dc c.args.bps c.loop-j-test.true c.requires.0 c.requires.1).offset
+
+pub slice_bounds-demap-count : goal.slice_bounds-demap-count
+slice_bounds-demap-count c = (cell_lent c.loop-j.j c.args.dc c.args.bps c.loop-j-test.true c.requires.0 c.requires.1).forward
+
+pub slice_bounds-demap-start : goal.slice_bounds-demap-start
+slice_bounds-demap-start c = (cell_lent c.loop-j.j c.args.dc c.args.bps c.loop-j-test.true c.requires.0 c.requires.1).forward
+
+pub slice_bounds-demap-end : goal.slice_bounds-demap-end
+slice_bounds-demap-end c = (row_inside c.loop-j.j c.args.dc c.args.bps c.args.out.now c.loop-j.out c.loop-j-test.true c.requires.3 c.loop-j.invariant.1)
+
+pub demap-requires : goal.demap-requires
+demap-requires c =
+    (c.requires.1, lent_long c.loop-j.j c.args.bps c.loop-j.out (row_inside c.loop-j.j c.args.dc c.args.bps c.args.out.now c.loop-j.out c.loop-j-test.true c.requires.3 c.loop-j.invariant.1))
+
+pub overflow_step-j : goal.overflow_step-j
+overflow_step-j c = next_fits c.loop-j-test.true c.requires.0
+
+pub loop-j-smaller : goal.loop-j-smaller
+loop-j-smaller c = turn_less c.loop-j-test.true
+
+pub loop-j-preserved : goal.loop-j-preserved
+loop-j-preserved c =
+    let w = lent (c.loop-j.j * c.args.bps) c.args.bps c.loop-j.out (row_inside c.loop-j.j c.args.dc c.args.bps c.args.out.now c.loop-j.out c.loop-j-test.true c.requires.3 c.loop-j.invariant.1) in
+    let y = despread_by c.args.pts.now c.args.bps c.args.e c.args.z.now c.loop-j.j c.sample.result c.new.result _ c.sample.ensures c.new.ensures w in
+    (turn_more c.loop-j-test.true, c.out-1.given.1 ∙ c.loop-j.invariant.1, row_step c.args.bps (part c) (part_length c) c.loop-j.j c.args.out.now c.loop-j.out _ c.loop-j.invariant.2 (c.demap.ensures ∙ y))
+
+pub shape_of-out : goal.shape_of-out
+shape_of-out c = c.loop-j.invariant.1
+
+pub returns : goal.returns
+returns c =
+    row_end c.args.bps (part c) (part_length c) c.loop-j.j c.args.dc c.args.out.now c.loop-j.out c.loop-j.invariant.0 c.loop-j-test.false c.requires.3 c.loop-j.invariant.2

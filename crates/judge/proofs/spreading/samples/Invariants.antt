@@ -1,0 +1,20 @@
+use Prim.Native.Nat.{ℕ, ◌≤◌, ◌<◌, ◌+◌, ◌-◌, ◌*◌}
+use mathlib.Core.List.{◌++◌}
+use mathlib.Core.Path.{◌≡◌, refl}
+use native.Mathlib.Omega.{arith}
+use lib.ListN.{length-set, length, drop}
+use borrow.Author.Rules.{rules}
+use Rattle.dsp.specs.declared.Complex.{Complex}
+use Rattle.spread.proofs.Pairs.{pairs, pairs_none, pairs_step, pairs_end}
+use Rattle.load.specs.Fit.{ncell}
+use Rattle.judge.specs.Judge.{ya}
+use Rattle.judge.specs.Cells.{sample_of}
+use Rattle.judge.proofs.Placed.{row_cell, few_cells}
+use Rattle.judge.proofs.spreading.samples.Given as goal
+
+abbrev pub invariant-loop-j : goal.invariant-loop-j
+invariant-loop-j l =
+    (l.j ≤ l.s.dc) × (length l.y ≡ length l.initial.y) × (l.y ≡ pairs (λ k. sample_of l.s l.grid (l.t * l.s.dc + k)) l.j ++ drop (2 * l.j) l.initial.y)
+
+abbrev pub decreases-loop-j : goal.decreases-loop-j
+decreases-loop-j l = l.s.dc - l.j

@@ -1,0 +1,19 @@
+use Prim.Native.Nat.{◌≤◌, ◌+◌, ◌-◌, ◌*◌}
+use mathlib.Core.List.{◌++◌}
+use mathlib.Core.Path.{◌≡◌, refl}
+use native.Mathlib.Omega.{arith}
+use lib.Ieee.{nan}
+use lib.ListN.{drop, get_or}
+use borrow.Author.Rules.{rules}
+use Rattle.seq.specs.Tab.Laws.{tab_none, tab_step, tab_end, length_tabbed}
+use Rattle.seq.specs.Tab.{tab}
+use Rattle.ieee.specs.Num.{◌⊞◌, ◌⊠◌}
+use Rattle.judge.specs.Judge.{va}
+use Rattle.judge.proofs.spreading.variances.Given as goal
+
+abbrev pub invariant-loop-j : goal.invariant-loop-j
+invariant-loop-j l =
+    (l.j ≤ l.dc) × (l.v ≡ tab l.j (λ k. get_or l.cells (l.t * l.dc + k) nan ⊞ get_or l.row (3 * k + 2) nan ⊠ (l.gain ⊠ l.gain)) ++ drop l.j l.initial.v)
+
+abbrev pub decreases-loop-j : goal.decreases-loop-j
+decreases-loop-j l = l.dc - l.j

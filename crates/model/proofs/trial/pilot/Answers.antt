@@ -1,0 +1,6 @@
+-- `pilot` meets its contract.
+use Rattle.std.proofs.Common.{rules}
+use Rattle.model.proofs.trial.pilot.Goals as goal
+
+pub returns : goal.returns
+returns c = rw c.new-h.ensures
