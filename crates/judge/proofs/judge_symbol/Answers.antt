@@ -59,12 +59,6 @@ pub despread_row-requires : goal.despread_row-requires
 despread_row-requires c =
     (c.requires.0.cells, c.requires.1.readable, c.requires.1.spread c.if-m.true, c.estimate_row.auto.row ∙ lent (c.args.t * (c.args.s.dc * 3)) (c.args.s.dc * 3) c.args.channel.now ((let h : c.args.t * (c.args.s.dc * 3) + c.args.s.dc * 3 ≤ length c.args.channel.now = row_within c.args.s c.requires.0.cells c.args.t 3 _ c.requires.1.readable.symbol c.requires.1.long_channel in h)), lent (c.args.t * (c.args.s.dc * c.args.m.bps)) (c.args.s.dc * c.args.m.bps) c.args.answer.now ((let h : c.args.t * (c.args.s.dc * c.args.m.bps) + c.args.s.dc * c.args.m.bps ≤ length c.args.answer.now = row_within c.args.s c.requires.0.cells c.args.t c.args.m.bps _ c.requires.1.readable.symbol c.requires.1.long_answer in h)))
 
-pub shape_of-channel-then-m : goal.shape_of-channel-then-m
-shape_of-channel-then-m c = c.row-3-1.given.1
-
-pub shape_of-answer-then-m : goal.shape_of-answer-then-m
-shape_of-answer-then-m c = c.answer-1.given.1
-
 pub returns-then-m : goal.returns-then-m
 returns-then-m c =
     let g = c.args in
@@ -75,12 +69,6 @@ returns-then-m c =
 pub demap_row-requires : goal.demap_row-requires
 demap_row-requires c =
     (c.requires.0.cells, c.requires.1.readable, c.estimate_row.auto.row ∙ lent (c.args.t * (c.args.s.dc * 3)) (c.args.s.dc * 3) c.args.channel.now ((let h : c.args.t * (c.args.s.dc * 3) + c.args.s.dc * 3 ≤ length c.args.channel.now = row_within c.args.s c.requires.0.cells c.args.t 3 _ c.requires.1.readable.symbol c.requires.1.long_channel in h)), lent (c.args.t * (c.args.s.dc * c.args.m.bps)) (c.args.s.dc * c.args.m.bps) c.args.answer.now ((let h : c.args.t * (c.args.s.dc * c.args.m.bps) + c.args.s.dc * c.args.m.bps ≤ length c.args.answer.now = row_within c.args.s c.requires.0.cells c.args.t c.args.m.bps _ c.requires.1.readable.symbol c.requires.1.long_answer in h)))
-
-pub shape_of-channel : goal.shape_of-channel
-shape_of-channel c = c.row6.given.1
-
-pub shape_of-answer : goal.shape_of-answer
-shape_of-answer c = c.answer-2-1.given.1
 
 pub returns : goal.returns
 returns c =

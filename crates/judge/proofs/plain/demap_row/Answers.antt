@@ -1,5 +1,5 @@
 -- `demap_row` meets its contract: before each turn the likelihoods of the cells below j are written. Assumes nothing.
-use Prim.Native.Nat.{◌≤◌, ◌<◌, ◌+◌, ◌-◌, ◌*◌}
+use Prim.Native.Nat.{ℕ, ◌≤◌, ◌<◌, ◌+◌, ◌-◌, ◌*◌}
 use mathlib.Core.List.{◌++◌}
 use mathlib.Core.Path.{◌≡◌, refl, ◌∙◌}
 use native.Mathlib.Omega.{arith}
@@ -15,10 +15,6 @@ use Rattle.judge.proofs.Rows.{row_inside, next_fits, row_step, row_end}
 use Rattle.judge.proofs.Laws.{length_demapped}
 use Rattle.judge.proofs.Placed.{Lent, cell_lent, few_carriers, row_cell, few_cells}
 use Rattle.judge.proofs.plain.demap_row.Goals as goal
-use Rattle.judge.proofs.plain.demap_row.Tie as tie
-
-part_length : (l : tie.At-loop-j goal.the-invariant-loop-j goal.the-decreases-loop-j) (k : _) → length (demapped (start l).args.s (start l).args.pts.now (start l).args.bps (start l).args.grid.now (start l).args.cells.now ((start l).args.t * (start l).args.s.dc + k) (estimate_in (start l).args.row.now k)) ≡ (start l).args.bps
-part_length l k = length_demapped _ _ _ _ _ _ _
 
 pub loop-j-init : goal.loop-j-init
 loop-j-init c = (omega arith, refl, cat-none c.args.bps _ _)
@@ -51,20 +47,14 @@ pub demap_cell-requires : goal.demap_cell-requires
 demap_cell-requires c =
     (c.requires.0, (row_cell c.args.s c.requires.0 c.args.t c.loop-j.j c.requires.1.symbol c.loop-j-test.true), c.requires.1.long_grid, c.requires.1.long_cells, c.requires.1.bits, lent (c.loop-j.j * c.args.bps) c.args.bps c.loop-j.out (row_inside c.loop-j.j c.args.s.dc c.args.bps c.args.out.now c.loop-j.out c.loop-j-test.true c.requires.3 c.loop-j.invariant.1))
 
-pub overflow_step-j : goal.overflow_step-j
-overflow_step-j c = next_fits c.loop-j-test.true (few_carriers c.args.s c.requires.0)
-
 pub loop-j-smaller : goal.loop-j-smaller
 loop-j-smaller c = turn_less c.loop-j-test.true
 
 pub loop-j-preserved : goal.loop-j-preserved
 loop-j-preserved c =
-    let r = row_step c.args.bps _ (part_length c) c.loop-j.j c.args.out.now c.loop-j.out _ c.loop-j.invariant.2 (rw c.estimate_in.ensures at c.demap_cell.ensures) in
+    let r = row_step c.args.bps (λ (k : ℕ). demapped c.args.s c.args.pts.now c.args.bps c.args.grid.now c.args.cells.now (c.args.t * c.args.s.dc + k) (estimate_in c.args.row.now k)) (λ (k : ℕ). length_demapped _ _ _ _ _ _ _) c.loop-j.j c.args.out.now c.loop-j.out _ c.loop-j.invariant.2 (rw c.estimate_in.ensures at c.demap_cell.ensures) in
     (turn_more c.loop-j-test.true, c.out-1.given.1 ∙ c.loop-j.invariant.1, r)
-
-pub shape_of-out : goal.shape_of-out
-shape_of-out c = c.loop-j.invariant.1
 
 pub returns : goal.returns
 returns c =
-    row_end c.args.bps _ (part_length c) c.loop-j.j c.args.s.dc c.args.out.now c.loop-j.out c.loop-j.invariant.0 c.loop-j-test.false c.requires.3 c.loop-j.invariant.2
+    row_end c.args.bps (λ (k : ℕ). demapped c.args.s c.args.pts.now c.args.bps c.args.grid.now c.args.cells.now (c.args.t * c.args.s.dc + k) (estimate_in c.args.row.now k)) (λ (k : ℕ). length_demapped _ _ _ _ _ _ _) c.loop-j.j c.args.s.dc c.args.out.now c.loop-j.out c.loop-j.invariant.0 c.loop-j-test.false c.requires.3 c.loop-j.invariant.2

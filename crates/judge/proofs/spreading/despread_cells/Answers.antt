@@ -13,13 +13,6 @@ use Rattle.judge.proofs.Rows.{row_inside, lent_long, next_fits, two_within, row_
 use Rattle.judge.proofs.Placed.{Lent, cell_lent}
 use Rattle.judge.proofs.Laws.{length_despread, despread_by}
 use Rattle.judge.proofs.spreading.despread_cells.Goals as goal
-use Rattle.judge.proofs.spreading.despread_cells.Tie as tie
-
-abbrev part : tie.At-loop-j goal.the-invariant-loop-j goal.the-decreases-loop-j → ℕ → List Float
-part l = let a = (begun l).args in despread a.pts.now a.bps (answer_of a.e a.z.now)
-
-part_length : (l : tie.At-loop-j goal.the-invariant-loop-j goal.the-decreases-loop-j) (k : ℕ) → length (part l k) ≡ (begun l).args.bps
-part_length l k = let a = (begun l).args in length_despread a.pts.now a.bps (answer_of a.e a.z.now) k
 
 pub loop-j-init : goal.loop-j-init
 loop-j-init c = (omega arith, refl, cat-none c.args.bps _ _)
@@ -49,9 +42,6 @@ pub demap-requires : goal.demap-requires
 demap-requires c =
     (c.requires.1, lent_long c.loop-j.j c.args.bps c.loop-j.out (row_inside c.loop-j.j c.args.dc c.args.bps c.args.out.now c.loop-j.out c.loop-j-test.true c.requires.3 c.loop-j.invariant.1))
 
-pub overflow_step-j : goal.overflow_step-j
-overflow_step-j c = next_fits c.loop-j-test.true c.requires.0
-
 pub loop-j-smaller : goal.loop-j-smaller
 loop-j-smaller c = turn_less c.loop-j-test.true
 
@@ -59,11 +49,8 @@ pub loop-j-preserved : goal.loop-j-preserved
 loop-j-preserved c =
     let w = lent (c.loop-j.j * c.args.bps) c.args.bps c.loop-j.out (row_inside c.loop-j.j c.args.dc c.args.bps c.args.out.now c.loop-j.out c.loop-j-test.true c.requires.3 c.loop-j.invariant.1) in
     let y = despread_by c.args.pts.now c.args.bps c.args.e c.args.z.now c.loop-j.j c.sample.result c.new.result _ c.sample.ensures c.new.ensures w in
-    (turn_more c.loop-j-test.true, c.out-1.given.1 ∙ c.loop-j.invariant.1, row_step c.args.bps (part c) (part_length c) c.loop-j.j c.args.out.now c.loop-j.out _ c.loop-j.invariant.2 (c.demap.ensures ∙ y))
-
-pub shape_of-out : goal.shape_of-out
-shape_of-out c = c.loop-j.invariant.1
+    (turn_more c.loop-j-test.true, c.out-1.given.1 ∙ c.loop-j.invariant.1, row_step c.args.bps (despread c.args.pts.now c.args.bps (answer_of c.args.e c.args.z.now)) (length_despread c.args.pts.now c.args.bps (answer_of c.args.e c.args.z.now)) c.loop-j.j c.args.out.now c.loop-j.out _ c.loop-j.invariant.2 (c.demap.ensures ∙ y))
 
 pub returns : goal.returns
 returns c =
-    row_end c.args.bps (part c) (part_length c) c.loop-j.j c.args.dc c.args.out.now c.loop-j.out c.loop-j.invariant.0 c.loop-j-test.false c.requires.3 c.loop-j.invariant.2
+    row_end c.args.bps (despread c.args.pts.now c.args.bps (answer_of c.args.e c.args.z.now)) (length_despread c.args.pts.now c.args.bps (answer_of c.args.e c.args.z.now)) c.loop-j.j c.args.dc c.args.out.now c.loop-j.out c.loop-j.invariant.0 c.loop-j-test.false c.requires.3 c.loop-j.invariant.2

@@ -12,10 +12,6 @@ use Rattle.judge.specs.Judge.{ya}
 use Rattle.judge.specs.Cells.{sample_of}
 use Rattle.judge.proofs.Placed.{row_cell, few_cells}
 use Rattle.judge.proofs.spreading.samples.Goals as goal
-use Rattle.judge.proofs.spreading.samples.Tie as tie
-
-abbrev at : tie.At-loop-j goal.the-invariant-loop-j goal.the-decreases-loop-j → ℕ → Complex
-at l k = let a = (begun l).args in sample_of a.s a.grid.now (a.t * a.s.dc + k)
 
 pub loop-j-init : goal.loop-j-init
 loop-j-init c = (omega arith, refl, pairs_none _ _)
@@ -37,12 +33,9 @@ bounds-y-j-in-loop-j c = simp length-set (omega (arith, (let h : 2 * c.loop-j.j 
 
 pub loop-j-preserved : goal.loop-j-preserved
 loop-j-preserved c =
-    (omega arith, simp length-set c.loop-j.invariant.1, pairs_step (at c) c.loop-j.j c.args.y.now c.loop-j.y _ ((let h : 2 * c.loop-j.j + 2 ≤ length c.loop-j.y = omega (arith, c.requires.3, c.loop-j.invariant.1) in h)) c.loop-j.invariant.2 c.sample_of-x.ensures)
-
-pub shape_of-y : goal.shape_of-y
-shape_of-y c = c.loop-j.invariant.1
+    (omega arith, simp length-set c.loop-j.invariant.1, pairs_step (λ (k : ℕ). sample_of c.args.s c.args.grid.now (c.args.t * c.args.s.dc + k)) c.loop-j.j c.args.y.now c.loop-j.y _ ((let h : 2 * c.loop-j.j + 2 ≤ length c.loop-j.y = omega (arith, c.requires.3, c.loop-j.invariant.1) in h)) c.loop-j.invariant.2 c.sample_of-x.ensures)
 
 pub returns : goal.returns
 unfolding ya
 returns c =
-    pairs_end (at c) c.loop-j.j c.args.s.dc c.args.y.now c.loop-j.y c.loop-j.invariant.0 (omega arith) c.loop-j.invariant.2
+    pairs_end (λ (k : ℕ). sample_of c.args.s c.args.grid.now (c.args.t * c.args.s.dc + k)) c.loop-j.j c.args.s.dc c.args.y.now c.loop-j.y c.loop-j.invariant.0 (omega arith) c.loop-j.invariant.2
