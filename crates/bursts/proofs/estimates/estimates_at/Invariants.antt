@@ -1,0 +1,20 @@
+use Prim.Native.Nat.{◌-◌, ◌*◌, ◌≤◌}
+use mathlib.Core.Path.{◌≡◌, refl, ap, ◌∙◌}
+use mathlib.Core.List.{◌++◌}
+use native.Mathlib.Omega.{arith}
+use lib.ListN.{length, get_or, take, drop}
+use Rattle.seq.specs.Cat.{cat}
+use Rattle.seq.specs.Cat.Laws.{cat-none, cat_more, length_catted}
+use Rattle.load.specs.Pilots.{pilots}
+use Rattle.est.specs.declared.combine.Estimate.{Estimate}
+use Rattle.bursts.specs.Estimating.{flat_estimate, estimate_at, estimates_at}
+use Rattle.bursts.proofs.Rests.{rest_room, rest_put}
+use borrow.Author.Rules.{rules}
+use Rattle.bursts.proofs.estimates.estimates_at.Given as goal
+
+abbrev pub invariant-loop-i : goal.invariant-loop-i
+invariant-loop-i l =
+    (l.i ≤ length l.at) × (l.out ≡ cat l.i (λ k. flat_estimate (estimate_at l.f (pilots l.pc l.pg l.pf (length l.pc)) l.start l.rf l.rt (get_or l.at k 0))) ++ drop (l.i * 3) l.initial.out)
+
+abbrev pub decreases-loop-i : goal.decreases-loop-i
+decreases-loop-i l = length l.at - l.i

@@ -1,0 +1,8 @@
+-- `expected` meets its contract.
+use Rattle.refine.proofs.Hearing.{heard}
+use borrow.Author.Rules.{rules}
+use Rattle.refine.proofs.expected.expected.Goals as goal
+
+pub returns : goal.returns
+returns c =
+    heard c.args.m c.args.unit.now c.args.prior.now c.args.answer.now _ _ _ _ _ c.requires.long_soft c.requires.long_channel c.to_slots.ensures c.expect.ensures

@@ -1,0 +1,7 @@
+-- `twiddles_of` meets its contract.
+use Rattle.refine.proofs.EachSymbol.{not_both}
+use borrow.Author.Rules.{rules}
+use Rattle.refine.proofs.symbols.twiddles_of.Goals as goal
+
+pub returns : goal.returns
+returns c = λ u. not_both _ c.if-m.false u

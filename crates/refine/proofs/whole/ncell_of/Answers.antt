@@ -1,0 +1,15 @@
+-- `ncell_of` meets its contract.
+use mathlib.Core.Path.{ap, ◌∙◌}
+use Rattle.layout.specs.Sizes.{ncell_of}
+use Rattle.layout.proofs.Fits.{layout_fits}
+use Rattle.refine.proofs.Ready.{cells_most}
+use borrow.Author.Rules.{rules}
+use Rattle.refine.proofs.whole.ncell_of.Goals as goal
+
+pub ncell-requires : goal.ncell-requires
+ncell-requires c = (rw c.layout-l.ensures (layout_fits _).sizes, c.requires.1)
+
+pub returns : goal.returns
+returns c =
+    let e = c.ncell.ensures ∙ ap (λ l. ncell_of l c.args.s.sparse c.args.s.nsym) c.layout-l.ensures in
+    (e, rw e (cells_most c.args.s c.requires.0 c.requires.1))

@@ -1,0 +1,27 @@
+-- `refine` meets its contract.
+use Prim.Native.Nat.{◌*◌}
+use mathlib.Core.Path.{sym, ap}
+use lib.Seq.{length-take-le}
+use Rattle.refine.specs.Refine.{burst}
+use Rattle.refine.proofs.Ready.{exact_fit}
+use Rattle.refine.proofs.Joined.{refined}
+use borrow.Author.Rules.{rules}
+use Rattle.refine.proofs.whole.refine.Goals as goal
+
+pub slice_bounds-refine_exact-end-2 : goal.slice_bounds-refine_exact-end-2
+slice_bounds-refine_exact-end-2 c = sym (length-take-le _ c.args.answer.now (rw c.nbits_of-n.ensures c.requires.in_answer))
+
+pub slice_bounds-refine_exact-end-4 : goal.slice_bounds-refine_exact-end-4
+slice_bounds-refine_exact-end-4 c = sym (length-take-le _ c.args.channel.now (rw c.ncell_of-c.ensures.0 c.requires.in_channel))
+
+pub refine_exact-requires : goal.refine_exact-requires
+refine_exact-requires c =
+    let a = c.args in
+    exact_fit (burst a.s a.grid.now a.sigma.now a.cells.now) a.answer.now a.channel.now a.wf.now a.wu.now c.requires _ _ c.nbits_of-n.ensures (ap (λ x. 3 * x) c.ncell_of-c.ensures.0)
+
+pub returns : goal.returns
+returns c =
+    let k = c.refine_exact in
+    let a = c.args in
+    refined (burst a.s a.grid.now a.sigma.now a.cells.now) a.prior.now _ a.answer.now _ a.channel.now _ _ _
+    c.nbits_of-n.ensures (ap (λ x. 3 * x) c.ncell_of-c.ensures.0) k.ensures
