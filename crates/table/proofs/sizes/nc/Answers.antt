@@ -1,0 +1,7 @@
+-- `nc` meets its contract.
+use borrow.Author.Rules.{rules}
+use mathlib.Core.Path.{refl}
+use Rattle.table.proofs.sizes.nc.Goals as goal
+
+pub returns : goal.returns
+returns c = rw c.layout-l.ensures refl
