@@ -4,5 +4,3 @@ mod Starts
 pub mod ByAll
 mod Asking
 mod Filled
-mod Again
-mod Front
