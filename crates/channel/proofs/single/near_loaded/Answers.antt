@@ -1,0 +1,17 @@
+-- `near_loaded` meets its contract.
+use native.Mathlib.Omega.{arith}
+use borrow.Author.Rules.{rules}
+use Rattle.channel.proofs.Asking.{loaded_in, near_in}
+use Rattle.channel.proofs.single.near_loaded.Goals as goal
+
+pub near_records-requires : goal.near_records-requires
+near_records-requires c =
+    let x = c.args in
+    let l = loaded_in x.p x.np x.wf.now x.wu.now _ c.places_of-n.ensures c.requires.1 c.requires.0 in
+    (l.0, l.1, c.requires.0.width, omega (arith, c.requires.2, c.requires.0.ng))
+
+pub returns : goal.returns
+returns c =
+    let x = c.args in
+    let e = c.near_records.ensures in
+    (e.0, near_in x.p x.np x.wf.now x.wu.now _ c.places_of-n.ensures c.requires.1 x.g _ e.1)
