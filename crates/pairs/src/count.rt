@@ -24,8 +24,12 @@ fn one_if(b: bool) -> u64
 }
 
 fn counted(n: Count, own: bool, x: f32, y: f32) -> Count
-    requires { (n.equal < 100) × (n.differ < 100) × (n.others < 100) }
-    ensures { (result.equal ≤ n.equal + 1) × (result.differ ≤ n.differ + 1) × (result.others ≤ n.others + 1) }
+    requires equal { n.equal < 100 }
+    requires differ { n.differ < 100 }
+    requires others { n.others < 100 }
+    ensures equal { result.equal ≤ n.equal + 1 }
+    ensures differ { result.differ ≤ n.differ + 1 }
+    ensures others { result.others ≤ n.others + 1 }
 {
     let same = ieee::to_bits32(x) == ieee::to_bits32(y);
     if own {
@@ -44,7 +48,9 @@ fn counted(n: Count, own: bool, x: f32, y: f32) -> Count
 
 // The channel lists: three numbers a cell.
 pub fn channels(j: usize, a: &[f32; 36], b: &[f32; 36]) -> Count
-    ensures { (result.equal ≤ 36) × (result.differ ≤ 36) × (result.others ≤ 36) }
+    ensures equal { result.equal ≤ 36 }
+    ensures differ { result.differ ≤ 36 }
+    ensures others { result.others ≤ 36 }
 {
     let mut n = NONE;
     for i in 0..36usize {
@@ -55,7 +61,9 @@ pub fn channels(j: usize, a: &[f32; 36], b: &[f32; 36]) -> Count
 
 // The likelihoods, in bit order.
 pub fn likelihoods(j: usize, a: &[f32; 48], b: &[f32; 48]) -> Count
-    ensures { (result.equal ≤ 48) × (result.differ ≤ 48) × (result.others ≤ 48) }
+    ensures equal { result.equal ≤ 48 }
+    ensures differ { result.differ ≤ 48 }
+    ensures others { result.others ≤ 48 }
 {
     let mut n = NONE;
     for i in 0..48usize {

@@ -10,87 +10,85 @@ ghost use Rattle.std.specs.Prelude.{◌<◌};
 
 use phy::Refinement;
 use refine::Refined;
+use std::io;
 
-fn print(text: &[u8]) {
-    io::write_all(1, text);
+fn print_refined(rt: &impl Print, r: Refined) -> io::Result<()> {
+    let fd = r.fd;
+    let tm = r.tm;
+    let scale = ieee::to_bits32(r.scale);
+    let spoilt = r.spoilt;
+    println!(rt; "'s priors negated: model {fd} {tm}, scale {scale:08x}, spoilt {spoilt}")
 }
 
-fn print_number(n: u64) {
-    io::print_decimal(1, n);
-}
-
-fn print_refined(r: Refined) {
-    print(b"'s priors negated: model ");
-    print_number(r.fd as u64);
-    print(b" ");
-    print_number(r.tm as u64);
-    print(b", scale ");
-    io::print_hex(1, ieee::to_bits32(r.scale) as u64, 8);
-    print(b", spoilt ");
-    print_number(r.spoilt as u64);
-    print(b"\n");
-}
-
-fn print_refinement(r: Refinement) {
+fn print_refinement(rt: &impl Print, r: Refinement) -> io::Result<()> {
     match r {
-        Refinement::Accepted(refined) => print_refined(refined),
-        Refinement::Refused(_) => print(b": refused\n"),
+        Refinement::Accepted(refined) => print_refined(rt, refined),
+        Refinement::Refused(_) => println!(rt; ": refused"),
     }
 }
 
 // The cell whose own priors were negated, and the others.
-fn print_own(j: usize, a: &[f32; 48], c: &[f32; 36], b: &[f32; 48], d: &[f32; 36]) {
+fn print_own(
+    rt: &impl Print,
+    j: usize,
+    a: &[f32; 48],
+    c: &[f32; 36],
+    b: &[f32; 48],
+    d: &[f32; 36],
+) -> io::Result<()> {
     let l = count::likelihoods(j, a, b);
     let h = count::channels(j, c, d);
-    print(b"  own numbers equal: ");
-    print_number(h.equal + l.equal);
-    print(b"; other cells' that differ: ");
-    print_number(h.others);
-    print(b" of 33 channel numbers, ");
-    print_number(l.others);
-    print(b" of 44 likelihoods\n");
+    let own = h.equal + l.equal;
+    let numbers = h.others;
+    let others = l.others;
+    println!(rt;
+        "  own numbers equal: {own}; other cells' that differ: {numbers} of 33 channel numbers, {others} of 44 likelihoods"
+    )
 }
 
 // Cell j, another cell's priors negated.
-fn print_neighbour(j: usize, a: &[f32; 48], c: &[f32; 36], b: &[f32; 48], d: &[f32; 36]) {
+fn print_neighbour(
+    rt: &impl Print,
+    j: usize,
+    a: &[f32; 48],
+    c: &[f32; 36],
+    b: &[f32; 48],
+    d: &[f32; 36],
+) -> io::Result<()> {
     let l = count::likelihoods(j, a, b);
     let h = count::channels(j, c, d);
-    print(b"  of cell ");
-    print_number(j as u64);
-    print(b" differ: ");
-    print_number(h.differ);
-    print(b" of 3 channel numbers, ");
-    print_number(l.differ);
-    print(b" of 4 likelihoods\n");
+    let numbers = h.differ;
+    let differ = l.differ;
+    println!(rt; "  of cell {j} differ: {numbers} of 3 channel numbers, {differ} of 4 likelihoods")
 }
 
 // The refinement with cell j's own priors negated, against likelihoods a and channel list c.
-fn print_pair(j: usize, a: &[f32; 48], c: &[f32; 36])
+fn print_pair(rt: &impl Print, j: usize, a: &[f32; 48], c: &[f32; 36]) -> io::Result<()>
     requires { j < 12 }
 {
     let p = burst::priors(j);
     let mut b = [0.0f32; 48];
     let mut d = [0.0f32; 36];
     let r = burst::refined(&p, &mut b, &mut d);
-    print(b"cell ");
-    print_number(j as u64);
-    print_refinement(r);
-    print_own(j, a, c, &b, &d);
-    print_neighbour(j ^ 1, a, c, &b, &d);
+    print!(rt; "cell {j}")?;
+    print_refinement(rt, r)?;
+    print_own(rt, j, a, c, &b, &d)?;
+    print_neighbour(rt, j ^ 1, a, c, &b, &d)
 }
 
-fn print_pairs(a: &[f32; 48], c: &[f32; 36]) {
+fn print_pairs(rt: &impl Print, a: &[f32; 48], c: &[f32; 36]) -> io::Result<()> {
     for j in 0..12usize {
-        print_pair(j, a, c);
+        print_pair(rt, j, a, c)?;
     }
+    Ok(())
 }
 
-fn main() {
+fn main(rt: HostRuntime) -> io::Result<()> {
     let p = burst::priors(12);
     let mut a = [0.0f32; 48];
     let mut c = [0.0f32; 36];
     let r = burst::refined(&p, &mut a, &mut c);
-    print(b"no cell");
-    print_refinement(r);
-    print_pairs(&a, &c);
+    print!(rt; "no cell")?;
+    print_refinement(&rt, r)?;
+    print_pairs(&rt, &a, &c)
 }
