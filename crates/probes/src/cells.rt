@@ -25,15 +25,13 @@ fn carriers_at(m: Map, g: usize) -> usize
     m.nc - m.pattern(g).pilots(m.nc)
 }
 
-#[unsafe(no_mangle)]
-pub extern "C" fn probe_is_pilot(number: u32, sparse: bool, c: usize, g: usize) -> bool
+pub fn probe_is_pilot(number: u32, sparse: bool, c: usize, g: usize) -> bool
     ensures { result ≡ is_pilot (map_of (layout_of number) sparse one32) c g }
 {
     map_of(number, sparse, 1.0).is_pilot(c, g)
 }
 
-#[unsafe(no_mangle)]
-pub extern "C" fn probe_data_carrier(number: u32, sparse: bool, g: usize, j: usize) -> usize
+pub fn probe_data_carrier(number: u32, sparse: bool, g: usize, j: usize) -> usize
     ensures { result ≡ cond (leb 1 g && ltb j (carriers_at (map_of (layout_of number) sparse one32) g)) (data_carrier (map_of (layout_of number) sparse one32) g j) 0xFFFF }
 {
     let m = map_of(number, sparse, 1.0);
@@ -46,8 +44,7 @@ pub extern "C" fn probe_data_carrier(number: u32, sparse: bool, g: usize, j: usi
     m.data_carrier(g, j)
 }
 
-#[unsafe(no_mangle)]
-pub extern "C" fn probe_cell_index(number: u32, sparse: bool, g: usize, c: usize) -> usize
+pub fn probe_cell_index(number: u32, sparse: bool, g: usize, c: usize) -> usize
     ensures { result ≡ cond (ltb c (map_of (layout_of number) sparse one32).nc && not (is_pilot (map_of (layout_of number) sparse one32) c g)) (cell_index (map_of (layout_of number) sparse one32) g c) 0xFFFF }
 {
     let m = map_of(number, sparse, 1.0);
@@ -60,8 +57,7 @@ pub extern "C" fn probe_cell_index(number: u32, sparse: bool, g: usize, c: usize
     m.cell_index(g, c)
 }
 
-#[unsafe(no_mangle)]
-pub extern "C" fn probe_known(
+pub fn probe_known(
     number: u32,
     sparse: bool,
     gain: f32,

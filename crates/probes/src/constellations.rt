@@ -10,8 +10,7 @@ use crate::lists::{put3, put128};
 use dsp::Complex;
 
 // Answers the bits of a point.
-#[unsafe(no_mangle)]
-pub extern "C" fn probe_points(code: u32, out: &mut [f32]) -> usize
+pub fn probe_points(code: u32, out: &mut [f32]) -> usize
     ensures { (result ≡ cond (leb 128 (length out.old)) (points_of code).bps 0) × (out.new ≡ cond (leb 128 (length out.old)) ((points_of code).pts ++ drop 128 out.old) out.old) }
 {
     if out.len() < 128 {
@@ -23,8 +22,7 @@ pub extern "C" fn probe_points(code: u32, out: &mut [f32]) -> usize
     t.bps
 }
 
-#[unsafe(no_mangle)]
-pub extern "C" fn probe_scaled(code: u32, gain: f32, out: &mut [f32]) -> u32
+pub fn probe_scaled(code: u32, gain: f32, out: &mut [f32]) -> u32
     ensures { Put (leb 128 (length out.old)) 128 (scaled_of (points_of code).pts gain) out.old result out.new }
 {
     if out.len() < 128 {
@@ -37,8 +35,7 @@ pub extern "C" fn probe_scaled(code: u32, gain: f32, out: &mut [f32]) -> u32
     1
 }
 
-#[unsafe(no_mangle)]
-pub extern "C" fn probe_mean_energy(code: u32, gain: f32) -> f32
+pub fn probe_mean_energy(code: u32, gain: f32) -> f32
     ensures { result ≡ mean_energy_of (points_of code).pts (points_of code).bps gain }
 {
     let t = points::points(code);
@@ -47,8 +44,7 @@ pub extern "C" fn probe_mean_energy(code: u32, gain: f32) -> f32
 }
 
 // The points scaled by the gain; mean and variance go to out.
-#[unsafe(no_mangle)]
-pub extern "C" fn probe_soft_point(code: u32, gain: f32, llr: &[f32], out: &mut [f32]) -> u32
+pub fn probe_soft_point(code: u32, gain: f32, llr: &[f32], out: &mut [f32]) -> u32
     ensures { Put (leb (points_of code).bps (length llr.now) && leb 3 (length out.old)) 3 (flat_soft (soft_point llr.now (scaled_of (points_of code).pts gain) (points_of code).bps)) out.old result out.new }
 {
     let t = points::points(code);
@@ -66,8 +62,7 @@ pub extern "C" fn probe_soft_point(code: u32, gain: f32, llr: &[f32], out: &mut 
 }
 
 // The same of a table that the caller made.
-#[unsafe(no_mangle)]
-pub extern "C" fn probe_soft_point_of(
+pub fn probe_soft_point_of(
     pts: &[f32; 128],
     bps: usize,
     llr: &[f32],
@@ -89,15 +84,13 @@ pub extern "C" fn probe_soft_point_of(
     1
 }
 
-#[unsafe(no_mangle)]
-pub extern "C" fn probe_softplus(x: f32) -> f32
+pub fn probe_softplus(x: f32) -> f32
     ensures { result ≡ softplus_of x }
 {
     soft::softplus(x)
 }
 
-#[unsafe(no_mangle)]
-pub extern "C" fn probe_loud(re: f32, im: f32, es: f32) -> bool
+pub fn probe_loud(re: f32, im: f32, es: f32) -> bool
     ensures { result ≡ loud_of (complex re im) es }
 {
     soft::loud(Complex::new(re, im), es)

@@ -8,8 +8,7 @@ ghost use Rattle.elementary.specs.Circular.{sin_at, cos_at};
 ghost use Rattle.elementary.specs.Gain.{gain_at};
 ghost use Rattle.probes.specs.Within.{within};
 
-#[unsafe(no_mangle)]
-pub extern "C" fn probe_exp(x: f32) -> f32
+pub fn probe_exp(x: f32) -> f32
     ensures { result ≡ within (not (lt zero+ x)) (exp_at x) }
 {
     if x > 0.0 {
@@ -18,8 +17,7 @@ pub extern "C" fn probe_exp(x: f32) -> f32
     elementary::exp(x)
 }
 
-#[unsafe(no_mangle)]
-pub extern "C" fn probe_ln(v: f32) -> f32
+pub fn probe_ln(v: f32) -> f32
     ensures { result ≡ within (not (lt v least)) (ln_at v) }
 {
     if v < 1e-30 {
@@ -28,8 +26,7 @@ pub extern "C" fn probe_ln(v: f32) -> f32
     elementary::ln(v)
 }
 
-#[unsafe(no_mangle)]
-pub extern "C" fn probe_ln_1p(t: f32) -> f32
+pub fn probe_ln_1p(t: f32) -> f32
     ensures { result ≡ within (not (lt t zero+)) (within (not (lt unit t)) (ln1p_at t)) }
 {
     if t < 0.0 {
@@ -41,8 +38,7 @@ pub extern "C" fn probe_ln_1p(t: f32) -> f32
     elementary::ln_1p(t)
 }
 
-#[unsafe(no_mangle)]
-pub extern "C" fn probe_sin(p: f64) -> f64
+pub fn probe_sin(p: f64) -> f64
     ensures { result ≡ within (not (le most p)) (within (not (le p (neg most))) (sin_at p)) }
 {
     if p >= 512.0 {
@@ -54,8 +50,7 @@ pub extern "C" fn probe_sin(p: f64) -> f64
     elementary::sin(p)
 }
 
-#[unsafe(no_mangle)]
-pub extern "C" fn probe_cos(p: f64) -> f64
+pub fn probe_cos(p: f64) -> f64
     ensures { result ≡ within (not (le most p)) (within (not (le p (neg most))) (cos_at p)) }
 {
     if p >= 512.0 {
@@ -67,8 +62,7 @@ pub extern "C" fn probe_cos(p: f64) -> f64
     elementary::cos(p)
 }
 
-#[unsafe(no_mangle)]
-pub extern "C" fn probe_gain(code: u32) -> f32
+pub fn probe_gain(code: u32) -> f32
     ensures { result ≡ within (leb code 3) (gain_at code) }
 {
     if code > 3 {

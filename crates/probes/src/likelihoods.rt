@@ -39,8 +39,7 @@ fn cell_of(r: Received) -> Cell
     }
 }
 
-#[unsafe(no_mangle)]
-pub extern "C" fn probe_demap(pts: &[f32; 128], bps: usize, r: Received, out: &mut [f32]) -> u32
+pub fn probe_demap(pts: &[f32; 128], bps: usize, r: Received, out: &mut [f32]) -> u32
     ensures { Put (leb bps 6 && leb bps (length out.old)) bps (likelihoods (cell_of r) pts.now bps) out.old result out.new }
 {
     if bps > 6 {
@@ -54,8 +53,7 @@ pub extern "C" fn probe_demap(pts: &[f32; 128], bps: usize, r: Received, out: &m
 }
 
 // The variances are not read.
-#[unsafe(no_mangle)]
-pub extern "C" fn probe_decide(pts: &[f32; 128], bps: usize, r: Received, out: &mut [f32]) -> u32
+pub fn probe_decide(pts: &[f32; 128], bps: usize, r: Received, out: &mut [f32]) -> u32
     ensures { Put (leb bps 6 && leb 2 (length out.old)) 2 (flat (decide_of (cell_of r).y (cell_of r).h pts.now bps)) out.old result out.new }
 {
     if bps > 6 {

@@ -73,8 +73,7 @@ fn no_room(s: Source, grid: &[f32], w: &[u32], pf: &[f32]) -> bool
     false
 }
 
-#[unsafe(no_mangle)]
-pub extern "C" fn probe_load(
+pub fn probe_load(
     s: Settings,
     grid: &[f32],
     sigma: &[f32],

@@ -5,22 +5,19 @@ ghost use Rattle.bits.specs.Step.{step_of};
 ghost use Rattle.bits.specs.Slots.{longest, slot_of, slot_priors, bit_order};
 ghost use Rattle.probes.specs.Within.{Put};
 
-#[unsafe(no_mangle)]
-pub extern "C" fn probe_mix32(x: u32) -> u32
+pub fn probe_mix32(x: u32) -> u32
     ensures { result ≡ mix_of x }
 {
     bits::mix32(x)
 }
 
-#[unsafe(no_mangle)]
-pub extern "C" fn probe_scramble(seed: u32, i: u32) -> u32
+pub fn probe_scramble(seed: u32, i: u32) -> u32
     ensures { result ≡ scramble_of seed i }
 {
     bits::scramble(seed, i)
 }
 
-#[unsafe(no_mangle)]
-pub extern "C" fn probe_interleave_step(n: usize) -> usize
+pub fn probe_interleave_step(n: usize) -> usize
     ensures { result ≡ cond (leb n longest) (step_of n) 0 }
 {
     if n > 607662 {
@@ -29,8 +26,7 @@ pub extern "C" fn probe_interleave_step(n: usize) -> usize
     bits::interleave_step(n)
 }
 
-#[unsafe(no_mangle)]
-pub extern "C" fn probe_slot(n: usize, i: usize) -> usize
+pub fn probe_slot(n: usize, i: usize) -> usize
     ensures { result ≡ cond (leb n longest) (cond (ltb i n) (slot_of n i) 0) 0 }
 {
     if n > 607662 {
@@ -39,8 +35,7 @@ pub extern "C" fn probe_slot(n: usize, i: usize) -> usize
     if i < n { bits::slot(n, i) } else { 0 }
 }
 
-#[unsafe(no_mangle)]
-pub extern "C" fn probe_to_slots(prior: &[f32], n: usize, out: &mut [f32]) -> u32
+pub fn probe_to_slots(prior: &[f32], n: usize, out: &mut [f32]) -> u32
     ensures { Put (leb 1 n && leb n longest && leb n (length out.old)) n (slot_priors n prior.now) out.old result out.new }
 {
     if n == 0 {
@@ -56,8 +51,7 @@ pub extern "C" fn probe_to_slots(prior: &[f32], n: usize, out: &mut [f32]) -> u3
     1
 }
 
-#[unsafe(no_mangle)]
-pub extern "C" fn probe_from_slots(slots: &[f32], n: usize, out: &mut [f32]) -> u32
+pub fn probe_from_slots(slots: &[f32], n: usize, out: &mut [f32]) -> u32
     ensures { Put (leb 1 n && leb n longest && leb n (length out.old) && leb n (length slots.now)) n (bit_order n slots.now) out.old result out.new }
 {
     if n == 0 {

@@ -3,8 +3,7 @@ ghost use Rattle.std.specs.Prelude.{◌≡◌, cond, ◌&&◌, ◌*◌, leb, len
 ghost use Rattle.spread.specs.Spreader.{twiddles_of, forward_of, inverse_of};
 ghost use Rattle.probes.specs.Within.{Put};
 
-#[unsafe(no_mangle)]
-pub extern "C" fn probe_twiddles(m: usize, tw: &mut [f32; 218]) -> u32
+pub fn probe_twiddles(m: usize, tw: &mut [f32; 218]) -> u32
     ensures { (result ≡ cond (leb 1 m && leb m 109) 1 0) × (tw.new ≡ cond (leb 1 m && leb m 109) (twiddles_of m) tw.old) }
 {
     if m == 0 {
@@ -18,8 +17,7 @@ pub extern "C" fn probe_twiddles(m: usize, tw: &mut [f32; 218]) -> u32
 }
 
 // By twiddle factors that the caller made.
-#[unsafe(no_mangle)]
-pub extern "C" fn probe_forward(tw: &[f32; 218], m: usize, v: &mut [f32]) -> u32
+pub fn probe_forward(tw: &[f32; 218], m: usize, v: &mut [f32]) -> u32
     ensures { Put (leb m 109 && leb (2 * m) (length v.old)) (2 * m) (forward_of m tw.now v.old) v.old result v.new }
 {
     if m > 109 {
@@ -32,8 +30,7 @@ pub extern "C" fn probe_forward(tw: &[f32; 218], m: usize, v: &mut [f32]) -> u32
     1
 }
 
-#[unsafe(no_mangle)]
-pub extern "C" fn probe_spread(m: usize, inverse: bool, v: &mut [f32]) -> u32
+pub fn probe_spread(m: usize, inverse: bool, v: &mut [f32]) -> u32
     ensures { Put (leb 1 m && leb m 109 && leb (2 * m) (length v.old)) (2 * m) (cond inverse (inverse_of m (twiddles_of m) v.old) (forward_of m (twiddles_of m) v.old)) v.old result v.new }
 {
     if m == 0 {

@@ -33,8 +33,7 @@ fn judge_record(record: &[u8], out: &mut [u8], channel: &mut [u8]) -> u32
 }
 
 // Returns 0 and writes the answer to out, each data cell's estimate and error to channel; or returns the cause and leaves both as they were.
-#[unsafe(no_mangle)]
-pub extern "C" fn refine_record_channel(record: &[u8], out: &mut [u8], channel: &mut [u8]) -> u32
+pub fn refine_record_channel(record: &[u8], out: &mut [u8], channel: &mut [u8]) -> u32
     ensures { AnswersBoth «record».now result out.old out.new channel.old channel.new }
 {
     let refusal = shape_refusal(record);
@@ -52,8 +51,7 @@ pub extern "C" fn refine_record_channel(record: &[u8], out: &mut [u8], channel: 
 }
 
 // The same without the estimates: 10 + 4 × nbits bytes are written.
-#[unsafe(no_mangle)]
-pub extern "C" fn refine_record(record: &[u8], out: &mut [u8]) -> u32
+pub fn refine_record(record: &[u8], out: &mut [u8]) -> u32
     ensures { Answers «record».now result out.old out.new }
 {
     let mut channel = channel_page();
@@ -61,8 +59,7 @@ pub extern "C" fn refine_record(record: &[u8], out: &mut [u8]) -> u32
 }
 
 // Bits of a record of an accepted shape, else 0: the host makes room for 10 + 4 times as many bytes.
-#[unsafe(no_mangle)]
-pub extern "C" fn record_bits(record: &[u8]) -> usize
+pub fn record_bits(record: &[u8]) -> usize
     ensures { result ≡ bits_of «record».now }
 {
     wire::bits(record)
