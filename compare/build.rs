@@ -45,7 +45,7 @@ fn link_probes() {
     for name in ["record", "probes", "bursts", "headers", "asides"] {
         let library = folder.join(format!("lib{name}.a"));
         println!("cargo::rerun-if-changed={}", library.display());
-        assert!(library.is_file(), "no {}: run `rt staticlib {name}` first", library.display());
+        assert!(library.is_file(), "no {}: run `./archives {name}` first", library.display());
         println!("cargo::rustc-link-lib=static={name}");
     }
 }

@@ -14,7 +14,7 @@ fn main() {
     println!("cargo:rerun-if-changed={}", library.display());
     if !library.is_file() {
         eprintln!("{} is missing.", library.display());
-        eprintln!("Run `rt staticlib record` in the root of the repository: it proves the library and writes it.");
+        eprintln!("Run `./archives record` in the root of the repository: it proves the library and writes it.");
         eprintln!("RECORD_DIR names another folder that holds librecord.a.");
         std::process::exit(1);
     }
