@@ -6,3 +6,5 @@ pub mod Reading
 pub mod Accepted
 pub mod Printing
 pub mod AsPrinted
+pub mod Received
+pub mod Written

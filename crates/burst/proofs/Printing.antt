@@ -1,12 +1,12 @@
 -- What is put into the text is what the record's lines mean. Assumes nothing.
-use Prim.Native.Nat.{ℕ, ◌+◌, ◌*◌, ◌<◌, ◌≤◌}
+use Prim.Native.Nat.{ℕ, ◌+◌, ◌*◌, ◌<◌}
 use mathlib.Core.Path.{◌≡◌, refl, sym, ap, ◌∙◌}
 use mathlib.Core.Bool.{true}
 use mathlib.Core.List.{List, ◌++◌, append_assoc}
 use native.Mathlib.Nat.{zero-add}
 use native.Mathlib.Omega.{arith}
 use borrow.Author.Tests.{eq-eqb, ne_eqb}
-use lib.ListN.{length, drop, get_or, length-append}
+use lib.ListN.{length, drop, get_or}
 use lib.Dec.{leb}
 use lib.Ieee.{Float, binary32, to_bits, nan}
 use Rattle.seq.specs.Cat.Laws.{cat-same}
@@ -95,7 +95,3 @@ module _ (rec : List ℕ) (q : ℕ) (out₀ out₁ text text' : List ℕ) (r : �
       printed rec (answer_lines out₁ n) text text' r
       (ap (answer_lines out₁) (e ∙ bits_of_lem rec true z) ∙ accepted_lines rec (drop (answer_length rec) out₀) out₁ (a.accepted h) z)
       p
-
--- the lines are within the text
-pub within : {rec text text' : List ℕ} {r : ℕ} → Printed rec r text text' → r ≤ length text'
-within {rec} {text} {text'} {r} p = omega (arith, p.count, ap length p.lines, length-append (lines_of rec) (drop (length (lines_of rec)) text))

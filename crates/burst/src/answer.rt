@@ -9,6 +9,7 @@ use crate::digits::put_hex;
 use crate::text::{put_number, put_word};
 
 // Either zero is shown as 00000000.
+#[tactic(auto, unfolding(crate::specs::Lines::shown_zero))]
 fn shown(x: u32) -> u32
     ensures { result ≡ shown_zero x }
 {
@@ -28,7 +29,8 @@ fn put_line(x: u32, at: usize, text: &mut [u8]) -> usize
 
 // The n likelihoods past the answer's first ten bytes.
 fn put_lines(answer: &[u8], n: usize, at: usize, text: &mut [u8]) -> usize
-    requires { (10 + 4 * n ≤ length answer.now) × (at + n * 9 ≤ length text.old) }
+    requires answer { 10 + 4 * n ≤ length answer.now }
+    requires text { at + n * 9 ≤ length text.old }
     ensures { Puts (cat n (λ i. line_of (word_at answer.now (10 + 4 * i)))) text.old at result text.new }
 {
     let mut i = 0;
@@ -78,7 +80,9 @@ fn wide(x: u8) -> u32
 
 // The report in the answer's first ten bytes, then its n likelihoods.
 pub fn put_answer(answer: &[u8], n: usize, text: &mut [u8]) -> usize
-    requires { (10 + 4 * n ≤ length answer.now) × (n ≤ 4086) × (77 + n * 9 ≤ length text.old) }
+    requires answer { 10 + 4 * n ≤ length answer.now }
+    requires most { n ≤ 4086 }
+    requires text { 77 + n * 9 ≤ length text.old }
     ensures { Puts (answer_lines answer.now n) text.old 0 result text.new }
 {
     let fd = wide(answer[0]);

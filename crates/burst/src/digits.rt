@@ -1,15 +1,18 @@
-// Hexadecimal digits in ASCII.
+// Digits in ASCII.
 ghost use Rattle.std.specs.Prelude.{◌≡◌, ◌∷◌, ◌+◌, ◌<◌, ◌≤◌, length};
 ghost use Rattle.burst.specs.Digits.{digit_of, pair_of, hex8};
 ghost use Rattle.burst.specs.Text.{Puts};
 
-fn digit(n: u8) -> u8
+// Of 0 to 15.
+#[tactic(auto, unfolding(crate::specs::Digits::digit_of))]
+pub fn digit(n: u8) -> u8
     requires { n < 16 }
     ensures { result ≡ digit_of n }
 {
     if n < 10 { 48 + n } else { 55 + n }
 }
 
+#[tactic(auto, unfolding(crate::specs::Digits::pair_of))]
 fn put_pair(b: u8, at: usize, text: &mut [u8]) -> usize
     requires { at + 2 ≤ length text.old }
     ensures { Puts (pair_of b) text.old at result text.new }

@@ -62,12 +62,7 @@ pub fn probe_soft_point(code: u32, gain: f32, llr: &[f32], out: &mut [f32]) -> u
 }
 
 // The same of a table that the caller made.
-pub fn probe_soft_point_of(
-    pts: &[f32; 128],
-    bps: usize,
-    llr: &[f32],
-    out: &mut [f32],
-) -> u32
+pub fn probe_soft_point_of(pts: &[f32; 128], bps: usize, llr: &[f32], out: &mut [f32]) -> u32
     ensures { Put (leb bps 6 && leb bps (length llr.now) && leb 3 (length out.old)) 3 (flat_soft (soft_point llr.now pts.now bps)) out.old result out.new }
 {
     if bps > 6 {

@@ -1,6 +1,6 @@
 // One stored record: the call repeated, and what it writes held against the stored answer.
 ghost use Rattle.std.specs.Prelude.{◌≡◌, true, length};
-ghost use Rattle.replay.specs.Stored.{over, Right};
+ghost use Rattle.replay.specs.Stored.{over, Right, fresh};
 
 // The answer's bytes, and no byte past them changed.
 fn holds(out: &[u8], answer: &[u8], page: &[u8]) -> bool
@@ -13,10 +13,10 @@ fn holds(out: &[u8], answer: &[u8], page: &[u8]) -> bool
     if page.len() < k {
         return false;
     }
-    if !check::same(&out[..k], answer) {
+    if &out[..k] != answer {
         return false;
     }
-    check::same(&out[k..], &page[k..])
+    &out[k..] == &page[k..]
 }
 
 // The output has the page's bytes before the call.
@@ -31,13 +31,18 @@ fn repeated(rec: &[u8], number: u8, answer: &[u8], page: &[u8], out: &mut [u8]) 
 }
 
 // Bytes that no answer left behind.
+#[tactic(auto, unfolding(crate::specs::Stored::fresh))]
 pub fn page() -> [u8; 16354]
-    ensures { 16354 ≡ length result }
+    ensures room { 16354 ≡ length result }
+    ensures bytes { result ≡ fresh }
 {
     [165; 16354]
 }
 
-pub fn agrees(rec: &[u8], number: u8, answer: &[u8]) -> bool {
+// The call gives the stored answer.
+pub fn agrees(rec: &[u8], number: u8, answer: &[u8]) -> bool
+    ensures { result ≡ true → Right rec.now number answer.now fresh }
+{
     let fresh = page();
     let mut out = fresh;
     repeated(rec, number, answer, &fresh, &mut out)

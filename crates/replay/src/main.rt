@@ -4,37 +4,56 @@
 #![tactic(auto)]
 
 mod entry;
+mod input;
 
-ghost use Rattle.std.specs.Prelude.{◌≡◌, true, ◌+◌, ◌≤◌, ◌<◌, length};
+ghost use Rattle.std.specs.Prelude.{◌≡◌, true, ◌+◌, ◌*◌, ◌≤◌, ◌<◌, length, take, IfOk, IfSome};
+ghost use Rattle.std.specs.Io.KnownBytes.{Consumes};
+ghost use Rattle.replay.specs.Stored.{Holds};
+
+use crate::input::filled;
+use std::io;
+use std::io::Read;
 
 // Two bytes as a length.
-fn length_of(high: u8, low: u8) -> usize {
+fn length_of(high: u8, low: u8) -> usize
+    ensures { result ≡ high * 256 + low }
+{
     high as usize * 256 + low as usize
 }
 
+// Room for a record of any length that two bytes give.
+fn record_page() -> [u8; 65536]
+    ensures { 65536 ≡ length result }
+{
+    [0; 65536]
+}
+
 // Reads n bytes to the start of the space; false where there is no room or no input for them.
-fn read(n: usize, space: &mut [u8]) -> bool
-    ensures { result ≡ true → n ≤ length space.new }
+fn read<R: Read>(from: &mut R, n: usize, space: &mut [u8]) -> io::Result<bool>
+    ensures room { IfOk result (λ whole. whole ≡ true → n ≤ length space.new) }
+    ensures bytes { IfOk result (λ whole. whole ≡ true → Consumes (R.remaining from.old) (R.remaining from.new) (take n space.new)) }
 {
     if space.len() < n {
-        return false;
+        return Ok(false);
     }
-    io::read_full(0, &mut space[..n]) == n
+    filled(from, &mut space[..n])
 }
 
 // The rest of an entry read and repeated. One that is not whole differs.
-fn replayed(head: &[u8; 5]) -> bool {
+fn replayed<R: Read>(from: &mut R, head: &[u8; 5]) -> io::Result<bool>
+    ensures { IfOk result (λ same. same ≡ true → IfSome (R.remaining from.old) (Holds head.now)) }
+{
     let m = length_of(head[0], head[1]);
     let k = length_of(head[2], head[3]);
-    let mut rec = io::large_buffer();
+    let mut rec = record_page();
     let mut answer = entry::page();
-    if !read(m, &mut rec) {
-        return false;
+    if !read(from, m, &mut rec)? {
+        return Ok(false);
     }
-    if !read(k, &mut answer) {
-        return false;
+    if !read(from, k, &mut answer)? {
+        return Ok(false);
     }
-    entry::agrees(&rec[..m], head[4], &answer[..k])
+    Ok(entry::agrees(&rec[..m], head[4], &answer[..k]))
 }
 
 // What was counted so far.
@@ -45,8 +64,10 @@ struct Tally {
 }
 
 fn counted(t: Tally, same: bool) -> Tally
-    requires { (t.read < 100000) × (t.differ < 100000) }
-    ensures { (result.read ≤ t.read + 1) × (result.differ ≤ t.differ + 1) }
+    requires read { t.read < 100000 }
+    requires differ { t.differ < 100000 }
+    ensures read { result.read ≡ t.read + 1 }
+    ensures differ { result.differ ≤ t.differ + 1 }
 {
     if same {
         return Tally {
@@ -54,25 +75,32 @@ fn counted(t: Tally, same: bool) -> Tally
             differ: t.differ,
         };
     }
-    io::print_decimal(1, t.read);
-    io::write_all(1, b" differs\n");
     Tally {
         read: t.read + 1,
         differ: t.differ + 1,
     }
 }
 
-fn main() {
+// Prints the place of an entry that differs.
+fn report(rt: &impl Print, at: u64, same: bool) -> io::Result<()> {
+    if same {
+        return Ok(());
+    }
+    println!(rt; "{at} differs")
+}
+
+fn main(rt: HostRuntime) -> io::Result<()> {
+    let mut input = rt.stdin();
     let mut t = Tally { read: 0, differ: 0 };
     let mut head = [0u8; 5];
     for _ in 0usize..100_000 {
-        if io::read_full(0, &mut head) < 5 {
+        if !filled(&mut input, &mut head)? {
             break;
         }
-        t = counted(t, replayed(&head));
+        let same = replayed(&mut input, &head)?;
+        report(&rt, t.read, same)?;
+        t = counted(t, same);
     }
-    io::print_decimal(1, t.read);
-    io::write_all(1, b" records, ");
-    io::print_decimal(1, t.differ);
-    io::write_all(1, b" different\n");
+    let Tally { read, differ } = t;
+    println!(rt; "{read} records, {differ} different")
 }

@@ -1,6 +1,5 @@
 -- `estimate` meets its contract.
 use Rattle.est.specs.Estimate.{estimate_all}
-use Rattle.std.proofs.Common.{rules}
 use Rattle.est.proofs.estimate.Goals as goal
 
 pub returns : goal.returns

@@ -1,5 +1,5 @@
 -- `estimate_excl` meets its contract.
-use Rattle.std.proofs.Common.{◌≡◌, length, take, sym, refl, ◌∙◌, arith, length-take-le, rules}
+use Rattle.std.proofs.Common.{◌≡◌, length, take, sym, refl, ◌∙◌, arith, length-take-le}
 use Rattle.est.proofs.Chosen.{may_fetch, some, none}
 use Rattle.est.proofs.estimate_excl.Goals as goal
 

@@ -1,6 +1,5 @@
 -- `estimate_of` meets its contract.
 use Rattle.est.proofs.Chosen.{long_column, long_column3, may_combine, combines}
-use Rattle.std.proofs.Common.{rules}
 use Rattle.est.proofs.estimate_of.Goals as goal
 
 pub slice_bounds-combine-end : goal.slice_bounds-combine-end

@@ -1,6 +1,5 @@
 -- `estimate_without` meets its contract.
 use Rattle.est.specs.Estimate.{estimate_without}
-use Rattle.std.proofs.Common.{rules}
 use Rattle.est.proofs.estimate_without.Goals as goal
 
 pub returns : goal.returns

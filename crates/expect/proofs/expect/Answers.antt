@@ -1,5 +1,4 @@
 -- `expect` takes the way that the burst's mode says.
-use borrow.Author.Rules.{rules}
 use Rattle.expect.proofs.Expected.{spread_again, not_spread}
 use Rattle.expect.proofs.expect.Goals as goal
 

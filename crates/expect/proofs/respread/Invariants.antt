@@ -1,14 +1,9 @@
-use Prim.Native.Nat.{◌≤◌, ◌+◌, ◌-◌, ◌*◌}
-use mathlib.Core.Path.{◌≡◌, ◌∙◌}
+use Prim.Native.Nat.{◌≤◌, ◌-◌, ◌*◌}
+use mathlib.Core.Path.{◌≡◌}
 use mathlib.Core.List.{◌++◌}
-use native.Mathlib.Nat.{le_trans, mul-le-mul_right, mul_assoc}
-use native.Mathlib.Omega.{arith}
-use borrow.Author.Rules.{rules}
-use lib.ListN.{length, drop}
+use lib.ListN.{drop}
 use Rattle.seq.specs.Cat.{cat}
-use Rattle.seq.specs.Cat.Laws.{cat-none, cat_more, cat_end, length_catted, stretch, lent, returned}
-use Rattle.expect.specs.Expect.{spread_row, respread}
-use Rattle.expect.proofs.Laws.{length_row}
+use Rattle.expect.specs.Expect.{spread_row}
 use Rattle.expect.proofs.respread.Given as goal
 
 abbrev pub invariant-loop-t : goal.invariant-loop-t

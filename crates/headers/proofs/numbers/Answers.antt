@@ -1,7 +1,6 @@
 -- `numbers` meets its contract.
 use mathlib.Core.Path.{refl}
 use Rattle.headers.specs.Shown.{numbers_of}
-use borrow.Author.Rules.{rules}
 use Rattle.headers.proofs.numbers.Goals as goal
 
 pub returns : goal.returns

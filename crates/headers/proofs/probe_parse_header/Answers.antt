@@ -2,7 +2,6 @@
 use mathlib.Core.Path.{ap, ◌∙◌}
 use Rattle.header.specs.declared.answers.Parsed.{Parsed}
 use Rattle.headers.specs.Shown.{shown}
-use borrow.Author.Rules.{rules}
 use Rattle.headers.proofs.probe_parse_header.Goals as goal
 
 pub returns : goal.returns

@@ -2,7 +2,6 @@
 use mathlib.Core.Path.{sym, ap, ◌∙◌}
 use Rattle.header.specs.declared.answers.Parsed.{Parsed}
 use Rattle.headers.specs.Shown.{shown}
-use borrow.Author.Rules.{rules}
 use Rattle.headers.proofs.show.Goals as goal
 
 pub returns-in-Data : goal.returns-in-Data

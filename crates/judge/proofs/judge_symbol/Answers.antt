@@ -6,7 +6,7 @@ use lib.ListN.{length}
 use Rattle.seq.specs.Cat.Laws.{lent}
 use Rattle.load.specs.Pilots.{pilots}
 use Rattle.judge.proofs.Onward.{plain_next, spread_next}
-use Rattle.judge.proofs.Placed.{Lent, row_lent, row_within}
+use Rattle.judge.proofs.Placed.{row_lent, row_within}
 use Rattle.judge.proofs.judge_symbol.Goals as goal
 
 pub overflow_mul-w : goal.overflow_mul-w

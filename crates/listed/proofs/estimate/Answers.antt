@@ -1,8 +1,8 @@
 -- `listed::estimate` meets its contract: the lists hold the records, and `single` goes by the lists.
-use Rattle.std.proofs.Common.{◌≡◌, ◌≤◌, ℕ, List, ◌+◌, suc, length, refl, ap, ◌∙◌, arith, subst}
+use Rattle.std.proofs.Common.{◌≡◌, ◌≤◌, ℕ, List, length, ap, ◌∙◌, arith}
 use Rattle.load.specs.declared.pilot.Pilot.{Pilot}
 use Rattle.listed.specs.Listed.{by_all}
-use Rattle.listed.proofs.Filled.{Filled, begun, one_more, all_in, asked_in}
+use Rattle.listed.proofs.Filled.{begun, one_more, all_in, asked_in}
 use Rattle.listed.proofs.estimate.Goals as goal
 
 full : (ps : List Pilot) (i : ℕ) → i ≤ length ps → length ps ≤ i → i ≡ length ps

@@ -1,5 +1,5 @@
 -- Before each turn the records below i are in the lent lists.
-use Rattle.std.proofs.Common.{◌-◌, ◌≤◌, ◌≡◌, length}
+use Rattle.std.proofs.Common.{◌-◌, ◌≤◌, length}
 use Rattle.listed.proofs.Filled.{Filled}
 use Rattle.listed.proofs.estimate.Given as goal
 

@@ -1,6 +1,5 @@
 -- `pick` meets its contract: it walks from where the window's first symbol starts to where its last one ends.
 use Rattle.near.proofs.Walks.{span, picked}
-use borrow.Author.Rules.{rules}
 use Rattle.near.proofs.pick.Goals as goal
 
 pub pick_in-requires : goal.pick_in-requires

@@ -3,7 +3,6 @@ use native.Mathlib.Omega.{arith}
 use Rattle.near.specs.Walk.{skips, keys}
 use Rattle.near.proofs.Gathered.{few}
 use Rattle.near.proofs.Selected.{many}
-use borrow.Author.Rules.{rules}
 use Rattle.near.proofs.pick_in.Goals as goal
 
 pub returns-then-n-w : goal.returns-then-n-w

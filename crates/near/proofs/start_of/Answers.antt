@@ -1,6 +1,5 @@
 -- `start_of` meets its contract.
 use native.Mathlib.Omega.{arith}
-use borrow.Author.Rules.{rules}
 use Rattle.near.proofs.start_of.Goals as goal
 
 pub overflow_cast-result : goal.overflow_cast-result

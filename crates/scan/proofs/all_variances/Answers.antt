@@ -1,11 +1,7 @@
 -- `all_variances` meets its contract: the numbers passed have met the test.
-use Prim.Native.Nat.{◌≤◌, ◌-◌}
-use mathlib.Core.Path.{◌≡◌, sym, ◌∙◌}
+use mathlib.Core.Path.{sym, ◌∙◌}
 use native.Mathlib.Omega.{arith}
-use borrow.Author.Rules.{rules}
-use lib.ListN.{length, drop}
-use borrow.Author.Tests.{not-true, not-false}
-use Rattle.scan.specs.Fine.{all, is_variance}
+use Rattle.scan.specs.Fine.{is_variance}
 use Rattle.scan.proofs.Scanning.{scan_on, scan_stop, scan_end}
 use Rattle.scan.proofs.all_variances.Goals as goal
 

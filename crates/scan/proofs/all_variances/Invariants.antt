@@ -1,11 +1,7 @@
 use Prim.Native.Nat.{◌≤◌, ◌-◌}
-use mathlib.Core.Path.{◌≡◌, sym, ◌∙◌}
-use native.Mathlib.Omega.{arith}
-use borrow.Author.Rules.{rules}
+use mathlib.Core.Path.{◌≡◌}
 use lib.ListN.{length, drop}
-use borrow.Author.Tests.{not-true, not-false}
 use Rattle.scan.specs.Fine.{all, is_variance}
-use Rattle.scan.proofs.Scanning.{scan_on, scan_stop, scan_end}
 use Rattle.scan.proofs.all_variances.Given as goal
 
 abbrev pub invariant-loop-i : goal.invariant-loop-i

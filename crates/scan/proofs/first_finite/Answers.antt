@@ -1,7 +1,6 @@
 -- `first_finite` meets its contract.
 use mathlib.Core.Path.{sym}
 use native.Mathlib.Omega.{arith}
-use borrow.Author.Rules.{rules}
 use lib.Seq.{length-take-le, take_all}
 use Rattle.scan.proofs.first_finite.Goals as goal
 

@@ -1,6 +1,5 @@
 -- `is_variance` meets its contract.
 use mathlib.Core.Path.{refl}
-use borrow.Author.Rules.{rules}
 use Rattle.scan.specs.Fine.{is_variance}
 use Rattle.scan.proofs.is_variance.Goals as goal
 

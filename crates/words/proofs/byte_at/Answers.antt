@@ -1,6 +1,5 @@
 -- `byte_at` meets its contract.
 use mathlib.Core.Path.{refl}
-use borrow.Author.Rules.{rules}
 use native.Mathlib.Omega.{arith}
 use Rattle.words.proofs.byte_at.Goals as goal
 

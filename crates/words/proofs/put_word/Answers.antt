@@ -1,5 +1,4 @@
 -- `put_word` meets its contract.
-use borrow.Author.Rules.{rules}
 use Rattle.words.specs.Bytes.{word}
 use Rattle.words.proofs.Stored.{stored}
 use Rattle.words.proofs.put_word.Goals as goal

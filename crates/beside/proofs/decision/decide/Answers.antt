@@ -1,10 +1,8 @@
 -- `decide` meets its contract.
 use mathlib.Core.Path.{sym, ◌∙◌}
-use borrow.Author.Tests.{not-true, not-false}
 use Rattle.points.proofs.Laws.{points_laws}
 use Rattle.beside.specs.Decisions.{point_for}
 use Rattle.beside.proofs.Deciding.{bad_code, bad_sample, bad_channel, decided}
-use borrow.Author.Rules.{rules}
 use Rattle.beside.proofs.decision.decide.Goals as goal
 
 pub returns-then-code-gt3 : goal.returns-then-code-gt3

@@ -1,7 +1,6 @@
 -- `is_finite` meets its contract.
 use mathlib.Core.Path.{refl}
 use Rattle.beside.specs.Decisions.{isFiniteᶜ}
-use borrow.Author.Rules.{rules}
 use Rattle.beside.proofs.decision.is_finite.Goals as goal
 
 pub returns-then-is_finite32 : goal.returns-then-is_finite32

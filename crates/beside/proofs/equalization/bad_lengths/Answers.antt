@@ -2,7 +2,6 @@
 use mathlib.Core.Path.{refl}
 use borrow.Author.Tests.{eq-eqb, ne_eqb, lt-ltb, le-ltb}
 use Rattle.beside.specs.Equalizations.{bad_lengths}
-use borrow.Author.Rules.{rules}
 use Rattle.beside.proofs.equalization.bad_lengths.Goals as goal
 
 pub returns-then-m-eq0 : goal.returns-then-m-eq0

@@ -1,7 +1,6 @@
 -- `bad_numbers` meets its contract.
 use mathlib.Core.Path.{refl}
 use Rattle.beside.specs.Equalizations.{bad_numbers}
-use borrow.Author.Rules.{rules}
 use Rattle.beside.proofs.equalization.bad_numbers.Goals as goal
 
 pub returns-then-not-all_finite : goal.returns-then-not-all_finite

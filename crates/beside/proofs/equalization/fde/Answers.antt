@@ -1,7 +1,6 @@
 -- `fde` meets its contract: nothing is written before both tests have passed the call.
 use mathlib.Core.Path.{sym, ◌∙◌}
 use Rattle.beside.proofs.Equalizing.{unequal, not_finite, room, some, made}
-use borrow.Author.Rules.{rules}
 use Rattle.beside.proofs.equalization.fde.Goals as goal
 
 pub returns-then-bad_lengths : goal.returns-then-bad_lengths

@@ -1,5 +1,4 @@
 -- `mix32` meets its contract, line by line.
-use Rattle.std.proofs.Common.{rules}
 use Rattle.bits.specs.Mix.{mix_of}
 use Rattle.bits.proofs.mix.mix32.Goals as goal
 

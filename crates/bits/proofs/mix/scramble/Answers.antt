@@ -1,5 +1,5 @@
 -- `scramble` meets its contract: `& 1` is the remainder by 2.
-use Rattle.std.proofs.Common.{◌/◌, ◌∙◌, rules}
+use Rattle.std.proofs.Common.{◌/◌, ◌∙◌}
 use lib.Bits.{and_mask}
 use Rattle.bits.specs.Mix.{scramble_of}
 use Rattle.bits.proofs.mix.scramble.Goals as goal

@@ -1,5 +1,5 @@
 -- `sign` meets its contract: its test is the definition's.
-use Rattle.std.proofs.Common.{sym, ◌∙◌, rules, eq-eqb, ne_eqb}
+use Rattle.std.proofs.Common.{sym, ◌∙◌, eq-eqb, ne_eqb}
 use Rattle.bits.specs.Mix.{seed_data, scramble_of, signed}
 use Rattle.bits.proofs.mix.sign.Goals as goal
 

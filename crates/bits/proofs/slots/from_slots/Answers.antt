@@ -1,7 +1,6 @@
 -- `from_slots` meets its contract: each turn writes one bit's number, read at its slot.
-use Rattle.std.proofs.Common.{◌≡◌, ◌-◌, ◌≤◌, ◌++◌, get_or, drop, ap, ◌∙◌, arith, length-append, length-drop, rules}
+use Rattle.std.proofs.Common.{get_or, ap, ◌∙◌, arith, length-append, length-drop}
 use lib.Ieee.{nan}
-use Rattle.seq.specs.Tab.{tab}
 use Rattle.seq.specs.Tab.Laws.{tab_none, tab_step, tab_end, length_tab, length_tabbed}
 use Rattle.bits.specs.Mix.{signed}
 use Rattle.bits.specs.Slots.{bit_of, bit_order}

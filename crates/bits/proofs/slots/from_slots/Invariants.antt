@@ -1,9 +1,6 @@
-use Rattle.std.proofs.Common.{◌≡◌, ◌-◌, ◌≤◌, ◌++◌, get_or, drop, ap, ◌∙◌, arith, length-append, length-drop, rules}
-use lib.Ieee.{nan}
+use Rattle.std.proofs.Common.{◌≡◌, ◌-◌, ◌≤◌, ◌++◌, drop}
 use Rattle.seq.specs.Tab.{tab}
-use Rattle.seq.specs.Tab.Laws.{tab_none, tab_step, tab_end, length_tab, length_tabbed}
-use Rattle.bits.specs.Mix.{signed}
-use Rattle.bits.specs.Slots.{bit_of, bit_order}
+use Rattle.bits.specs.Slots.{bit_of}
 use Rattle.bits.proofs.slots.from_slots.Given as goal
 
 abbrev pub invariant-loop-i : goal.invariant-loop-i

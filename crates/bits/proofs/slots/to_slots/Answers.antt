@@ -1,9 +1,8 @@
 -- `to_slots` meets its contract: each turn puts one bit's prior at its slot.
-use Rattle.std.proofs.Common.{◌≡◌, ◌-◌, ◌≤◌, ap, ◌∙◌, arith, rules}
-use Rattle.seq.specs.Fill.{fill}
+use Rattle.std.proofs.Common.{ap, ◌∙◌, arith}
 use Rattle.seq.specs.Fill.Laws.{fill_none, fill_step, fill_end, length_fill}
 use Rattle.bits.specs.Mix.{signed}
-use Rattle.bits.specs.Slots.{slot_of, prior_bit}
+use Rattle.bits.specs.Slots.{prior_bit}
 use Rattle.bits.proofs.Laws.{slots_filled}
 use Rattle.bits.proofs.slots.to_slots.Goals as goal
 

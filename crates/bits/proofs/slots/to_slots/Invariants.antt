@@ -1,9 +1,6 @@
-use Rattle.std.proofs.Common.{◌≡◌, ◌-◌, ◌≤◌, ap, ◌∙◌, arith, rules}
+use Rattle.std.proofs.Common.{◌≡◌, ◌-◌, ◌≤◌}
 use Rattle.seq.specs.Fill.{fill}
-use Rattle.seq.specs.Fill.Laws.{fill_none, fill_step, fill_end, length_fill}
-use Rattle.bits.specs.Mix.{signed}
 use Rattle.bits.specs.Slots.{slot_of, prior_bit}
-use Rattle.bits.proofs.Laws.{slots_filled}
 use Rattle.bits.proofs.slots.to_slots.Given as goal
 
 abbrev pub invariant-loop-i : goal.invariant-loop-i

@@ -1,5 +1,5 @@
 -- `value_at` meets its contract: past the end it gives the default.
-use Rattle.std.proofs.Common.{◌≡◌, ℕ, zero, suc, ◌<◌, List, [], ◌∷◌, length, get_or, sym, refl, arith, rules}
+use Rattle.std.proofs.Common.{◌≡◌, ℕ, zero, suc, ◌<◌, List, [], ◌∷◌, length, get_or, sym, refl, arith}
 use lib.ListN.{get_or-eq_default}
 use lib.Ieee.{nan}
 use Rattle.bits.specs.Slots.{nought}

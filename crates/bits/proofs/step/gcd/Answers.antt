@@ -1,5 +1,5 @@
 -- `gcd` meets its contract: each turn is one of Euclid's steps.
-use Rattle.std.proofs.Common.{◌≡◌, sym, refl, ap, ◌∙◌, mod-lt, arith}
+use Rattle.std.proofs.Common.{sym, refl, ap, ◌∙◌, mod-lt, arith}
 use Rattle.bits.specs.Step.{gcd}
 use Rattle.bits.proofs.Divisors.{gcd_step, gcd_end}
 use Rattle.bits.proofs.step.gcd.Goals as goal

@@ -1,6 +1,5 @@
-use Rattle.std.proofs.Common.{◌≡◌, sym, refl, ap, ◌∙◌, mod-lt, arith}
+use Rattle.std.proofs.Common.{◌≡◌}
 use Rattle.bits.specs.Step.{gcd}
-use Rattle.bits.proofs.Divisors.{gcd_step, gcd_end}
 use Rattle.bits.proofs.step.gcd.Given as goal
 
 abbrev pub invariant-loop-y : goal.invariant-loop-y

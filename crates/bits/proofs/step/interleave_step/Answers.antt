@@ -1,6 +1,6 @@
 -- `interleave_step` meets its contract: what the search passes is below the step, which is the first that is coprime.
-use Rattle.std.proofs.Common.{◌-◌, ◌<◌, ◌≤◌, sym, arith, rules}
-use Rattle.bits.specs.Step.{start_of, step_of}
+use Rattle.std.proofs.Common.{◌<◌, sym, arith}
+use Rattle.bits.specs.Step.{step_of}
 use Rattle.bits.proofs.Search.{step_small, step_from, step_good, passed, stopped}
 use Rattle.bits.proofs.step.interleave_step.Goals as goal
 use Rattle.bits.proofs.step.interleave_step.Goals.{In-loop-a}

@@ -1,6 +1,5 @@
-use Rattle.std.proofs.Common.{◌-◌, ◌<◌, ◌≤◌, sym, arith, rules}
+use Rattle.std.proofs.Common.{◌-◌, ◌≤◌}
 use Rattle.bits.specs.Step.{start_of, step_of}
-use Rattle.bits.proofs.Search.{step_small, step_from, step_good, passed, stopped}
 use Rattle.bits.proofs.step.interleave_step.Given as goal
 
 abbrev pub invariant-loop-a : goal.invariant-loop-a

@@ -1,5 +1,5 @@
 -- `start` meets its contract: the cast is in range, and its steps round a half up.
-use Rattle.std.proofs.Common.{◌≡◌, ◌+◌, ◌/◌, arith, rules}
+use Rattle.std.proofs.Common.{◌≡◌, ◌+◌, ◌/◌, arith}
 use Rattle.bits.specs.Step.{start_of}
 use Rattle.bits.proofs.Rounding.{start_casts, start_is, start_le}
 use Rattle.bits.proofs.step.start.Goals as goal

@@ -2,7 +2,6 @@
 use mathlib.Core.Path.{◌∙◌}
 use Rattle.ieee.proofs.Floats.{quotient_nan}
 use Rattle.bursts.proofs.AtCells.{own_found, may_find, may_ask, past_grid, in_grid}
-use borrow.Author.Rules.{rules}
 use Rattle.bursts.proofs.estimates.estimate_at.Goals as goal
 
 pub returns-then-g-w : goal.returns-then-g-w

@@ -1,16 +1,13 @@
 -- `bursts::estimates_at` meets its contract: each turn writes the three numbers of one cell.
-use Prim.Native.Nat.{◌-◌, ◌*◌, ◌≤◌}
+use Prim.Native.Nat.{◌*◌}
 use mathlib.Core.Path.{◌≡◌, refl, ap, ◌∙◌}
 use mathlib.Core.List.{◌++◌}
 use native.Mathlib.Omega.{arith}
-use lib.ListN.{length, get_or, take, drop}
-use Rattle.seq.specs.Cat.{cat}
+use lib.ListN.{length, take, drop}
 use Rattle.seq.specs.Cat.Laws.{cat-none, cat_more, length_catted}
-use Rattle.load.specs.Pilots.{pilots}
 use Rattle.est.specs.declared.combine.Estimate.{Estimate}
-use Rattle.bursts.specs.Estimating.{flat_estimate, estimate_at, estimates_at}
+use Rattle.bursts.specs.Estimating.{flat_estimate, estimates_at}
 use Rattle.bursts.proofs.Rests.{rest_room, rest_put}
-use borrow.Author.Rules.{rules}
 use Rattle.bursts.proofs.estimates.estimates_at.Goals as goal
 
 pub loop-i-init : goal.loop-i-init

@@ -1,15 +1,10 @@
 use Prim.Native.Nat.{◌-◌, ◌*◌, ◌≤◌}
-use mathlib.Core.Path.{◌≡◌, refl, ap, ◌∙◌}
+use mathlib.Core.Path.{◌≡◌}
 use mathlib.Core.List.{◌++◌}
-use native.Mathlib.Omega.{arith}
-use lib.ListN.{length, get_or, take, drop}
+use lib.ListN.{length, get_or, drop}
 use Rattle.seq.specs.Cat.{cat}
-use Rattle.seq.specs.Cat.Laws.{cat-none, cat_more, length_catted}
 use Rattle.load.specs.Pilots.{pilots}
-use Rattle.est.specs.declared.combine.Estimate.{Estimate}
-use Rattle.bursts.specs.Estimating.{flat_estimate, estimate_at, estimates_at}
-use Rattle.bursts.proofs.Rests.{rest_room, rest_put}
-use borrow.Author.Rules.{rules}
+use Rattle.bursts.specs.Estimating.{flat_estimate, estimate_at}
 use Rattle.bursts.proofs.estimates.estimates_at.Given as goal
 
 abbrev pub invariant-loop-i : goal.invariant-loop-i

@@ -1,14 +1,11 @@
 -- `bursts::estimates_by` meets its contract.
-use Prim.Native.Nat.{ℕ, ◌+◌, ◌*◌, ◌≤◌}
+use Prim.Native.Nat.{◌+◌, ◌*◌}
 use mathlib.Core.Path.{◌≡◌, sym, ap, ◌∙◌}
-use mathlib.Core.List.{List, ◌++◌}
 use native.Mathlib.Omega.{arith}
-use lib.ListN.{length, take, drop}
-use lib.Ieee.{Float}
+use lib.ListN.{length}
 use lib.Seq.{length-take-le}
 use Rattle.bursts.proofs.Rests.{front, front_room}
 use Rattle.bursts.proofs.AtCells.{ready, by_fit}
-use borrow.Author.Rules.{rules}
 use Rattle.bursts.proofs.estimates.estimates_by.Goals as goal
 
 pub overflow_mul-n : goal.overflow_mul-n

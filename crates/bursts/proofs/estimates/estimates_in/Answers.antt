@@ -2,7 +2,6 @@
 use native.Mathlib.Omega.{arith}
 use Rattle.bursts.proofs.Loaded.{fit_in}
 use Rattle.bursts.proofs.AtCells.{no_room, put}
-use borrow.Author.Rules.{rules}
 use Rattle.bursts.proofs.estimates.estimates_in.Goals as goal
 
 pub returns-then-out-at : goal.returns-then-out-at

@@ -10,7 +10,6 @@ use Rattle.model.specs.declared.trial.Setting.{Setting}
 use Rattle.model.specs.Values.{FitModels, numerology_of, window_of, fd_value, tm_value}
 use Rattle.bursts.specs.declared.estimates.Asked.{Asked}
 use Rattle.bursts.specs.Estimating.{fitted_of, carrier_table, symbol_table}
-use borrow.Author.Rules.{rules}
 use Rattle.bursts.proofs.estimates.fit.Goals as goal
 
 fits : (s : Setting) (a : Asked) (l : Numerology) (fd tm : Float) (w : Window) (u : Scales) (rf rt : List Float)

@@ -1,6 +1,5 @@
 -- `bursts::probe_estimates` meets its contract.
 use Rattle.bursts.proofs.Loaded.{estimates_none, few_symbols, in_work, estimates_some}
-use borrow.Author.Rules.{rules}
 use Rattle.bursts.proofs.estimates.probe_estimates.Goals as goal
 
 pub returns-then-np-eq0 : goal.returns-then-np-eq0

@@ -1,6 +1,5 @@
 -- `bursts::probe_models` meets its contract.
 use Rattle.bursts.proofs.Loaded.{models_none, few_symbols, in_work, models_some}
-use borrow.Author.Rules.{rules}
 use Rattle.bursts.proofs.models.probe_models.Goals as goal
 
 pub returns-then-np-eq0 : goal.returns-then-np-eq0

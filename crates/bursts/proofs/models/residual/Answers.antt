@@ -1,5 +1,4 @@
 -- `bursts::residual` meets its contract.
-use borrow.Author.Rules.{rules}
 use Rattle.model.specs.Values.{FitModels}
 use Rattle.model.specs.Select.{tried}
 use Rattle.bursts.proofs.models.residual.Goals as goal

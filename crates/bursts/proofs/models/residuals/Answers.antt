@@ -1,14 +1,10 @@
 -- `bursts::residuals` meets its contract: each turn tries one model.
-use Prim.Native.Nat.{◌≤◌, ◌-◌}
-use mathlib.Core.Path.{◌≡◌, ◌∙◌}
-use mathlib.Core.List.{◌++◌, append-nil}
+use mathlib.Core.Path.{◌∙◌}
+use mathlib.Core.List.{append-nil}
 use native.Mathlib.Omega.{arith}
 use borrow.Author.Rules.{rules}
-use lib.ListN.{length, drop}
-use Rattle.seq.specs.Tab.{tab}
 use Rattle.seq.specs.Tab.Laws.{tab_none, tab_step, tab_end}
-use Rattle.load.specs.Pilots.{pilots}
-use Rattle.model.specs.Select.{tried, residuals}
+use Rattle.model.specs.Select.{residuals}
 use Rattle.bursts.proofs.models.residuals.Goals as goal
 
 pub loop-t-init : goal.loop-t-init

@@ -1,13 +1,10 @@
 use Prim.Native.Nat.{◌≤◌, ◌-◌}
-use mathlib.Core.Path.{◌≡◌, ◌∙◌}
-use mathlib.Core.List.{◌++◌, append-nil}
-use native.Mathlib.Omega.{arith}
-use borrow.Author.Rules.{rules}
+use mathlib.Core.Path.{◌≡◌}
+use mathlib.Core.List.{◌++◌}
 use lib.ListN.{length, drop}
 use Rattle.seq.specs.Tab.{tab}
-use Rattle.seq.specs.Tab.Laws.{tab_none, tab_step, tab_end}
 use Rattle.load.specs.Pilots.{pilots}
-use Rattle.model.specs.Select.{tried, residuals}
+use Rattle.model.specs.Select.{tried}
 use Rattle.bursts.proofs.models.residuals.Given as goal
 
 abbrev pub invariant-loop-t : goal.invariant-loop-t

@@ -1,6 +1,5 @@
 -- `bursts::select` meets its contract.
 use Rattle.bursts.proofs.Loaded.{fit_in}
-use borrow.Author.Rules.{rules}
 use Rattle.bursts.proofs.models.select.Goals as goal
 
 pub residuals-residuals-requires : goal.residuals-residuals-requires

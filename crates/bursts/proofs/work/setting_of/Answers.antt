@@ -1,7 +1,6 @@
 -- `bursts::setting_of` meets its contract.
 use Rattle.layout.proofs.Fits.{layout_fits}
 use Rattle.bursts.proofs.Loaded.{settled}
-use borrow.Author.Rules.{rules}
 use Rattle.bursts.proofs.work.setting_of.Goals as goal
 
 pub ng-requires : goal.ng-requires

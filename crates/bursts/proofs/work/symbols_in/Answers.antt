@@ -3,7 +3,6 @@ use Prim.Native.Nat.{◌+◌}
 use mathlib.Core.Path.{refl}
 use Rattle.bursts.specs.Work.{places_in}
 use Rattle.bursts.proofs.Rests.{part}
-use borrow.Author.Rules.{rules}
 use Rattle.bursts.proofs.work.symbols_in.Goals as goal
 
 pub returns : goal.returns

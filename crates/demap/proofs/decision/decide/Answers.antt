@@ -1,6 +1,6 @@
 -- `decide` by the state of its loop.
-use Prim.Native.Nat.{◌^◌, ◌≤◌, ◌-◌}
-use mathlib.Core.Path.{◌≡◌, ap}
+use Prim.Native.Nat.{◌^◌}
+use mathlib.Core.Path.{ap}
 use borrow.Author.Rules.{rules}
 use native.Mathlib.Omega.{arith}
 use Rattle.seq.specs.Loop.{for}

@@ -1,13 +1,7 @@
-use Prim.Native.Nat.{◌^◌, ◌≤◌, ◌-◌}
-use mathlib.Core.Path.{◌≡◌, ap}
-use borrow.Author.Rules.{rules}
-use native.Mathlib.Omega.{arith}
+use Prim.Native.Nat.{◌≤◌, ◌-◌}
+use mathlib.Core.Path.{◌≡◌}
 use Rattle.seq.specs.Loop.{for}
-use Rattle.seq.specs.Loop.Laws.{for_none, for_step, for_end}
-use Rattle.points.proofs.Counts.{at_most_64}
-use Rattle.demap.specs.declared.decision.Best.{Best}
-use Rattle.demap.specs.Decide.{farthest, decide_turn, decide_of}
-use Rattle.demap.proofs.Constants.{constants}
+use Rattle.demap.specs.Decide.{farthest, decide_turn}
 use Rattle.demap.proofs.decision.decide.Given as goal
 
 abbrev pub invariant-loop-k : goal.invariant-loop-k

@@ -1,5 +1,4 @@
 -- `added` by its branch.
-use borrow.Author.Rules.{rules}
 use Rattle.demap.proofs.halves.added.Goals as goal
 
 pub exp-requires : goal.exp-requires

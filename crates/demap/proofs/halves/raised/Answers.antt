@@ -1,5 +1,4 @@
 -- `raised` by its branch.
-use borrow.Author.Rules.{rules}
 use Rattle.demap.proofs.halves.raised.Goals as goal
 
 pub returns-then-own : goal.returns-then-own

@@ -1,12 +1,7 @@
 use Prim.Native.Nat.{◌≤◌, ◌-◌}
-use mathlib.Core.Path.{◌≡◌, ◌∙◌}
-use borrow.Author.Rules.{rules}
-use native.Mathlib.Omega.{arith}
+use mathlib.Core.Path.{◌≡◌}
 use Rattle.seq.specs.Loop.{for}
-use Rattle.seq.specs.Loop.Laws.{for_none, for_step, for_end}
-use Rattle.points.proofs.Counts.{at_most_64}
-use Rattle.demap.specs.Demap.{lowest, top_turn, top_of}
-use Rattle.demap.proofs.Constants.{constants}
+use Rattle.demap.specs.Demap.{lowest, top_turn}
 use Rattle.demap.proofs.halves.top.Given as goal
 
 abbrev pub invariant-loop-k : goal.invariant-loop-k

@@ -1,5 +1,5 @@
 -- `demap` writes the likelihoods one after the other.
-use Prim.Native.Nat.{ℕ, ◌≤◌, ◌-◌}
+use Prim.Native.Nat.{ℕ, ◌≤◌}
 use mathlib.Core.Path.{◌≡◌, ap, ◌∙◌}
 use mathlib.Core.List.{List, ◌++◌}
 use borrow.Author.Rules.{rules}
@@ -8,7 +8,7 @@ use lib.ListN.{length, drop}
 use lib.Ieee.{Float}
 use Rattle.seq.specs.Tab.{tab}
 use Rattle.seq.specs.Tab.Laws.{tab_none, tab_step, tab_end, length_tabbed}
-use Rattle.demap.specs.Demap.{likelihood_of, likelihoods}
+use Rattle.demap.specs.Demap.{likelihoods}
 use Rattle.demap.proofs.Sharing.{over_asked}
 use Rattle.demap.proofs.likelihoods.demap.Goals as goal
 

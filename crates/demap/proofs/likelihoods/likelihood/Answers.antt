@@ -1,5 +1,4 @@
 -- `likelihood` rounds and clamps as the source does.
-use borrow.Author.Rules.{rules}
 use Rattle.demap.specs.Demap.{likelihood_of}
 use Rattle.demap.proofs.likelihoods.likelihood.Goals as goal
 

@@ -1,6 +1,5 @@
 -- `side` asks ln for the sum, which is a NaN or at least 1, also where the shared exponentials give it.
 use mathlib.Core.Path.{◌≡◌, sym, ◌∙◌}
-use borrow.Author.Rules.{rules}
 use Rattle.demap.specs.Demap.{sum_of, side_of}
 use Rattle.demap.specs.Shared.{picked_of}
 use Rattle.demap.proofs.Sums.{ln_asked}

@@ -1,5 +1,4 @@
 -- `distance` rounds as the source does.
-use borrow.Author.Rules.{rules}
 use Rattle.demap.specs.Demap.{distance_of}
 use Rattle.demap.proofs.metrics.distance.Goals as goal
 

@@ -1,5 +1,4 @@
 -- `metric` asks ln for a variance, which is not below 1e-30.
-use borrow.Author.Rules.{rules}
 use Rattle.ieee.proofs.Orders.{max_laws}
 use Rattle.demap.specs.Demap.{variance_of, metric_of}
 use Rattle.demap.proofs.metrics.metric.Goals as goal

@@ -1,16 +1,11 @@
 use Prim.Native.Nat.{ℕ, ◌≤◌, ◌-◌}
 use mathlib.Core.Path.{◌≡◌}
 use mathlib.Core.List.{◌++◌}
-use borrow.Author.Rules.{rules}
-use native.Mathlib.Omega.{arith}
 use lib.ListN.{drop}
 use Rattle.seq.specs.Tab.{tab}
-use Rattle.seq.specs.Tab.Laws.{tab_none, tab_step, tab_end}
 use Rattle.points.specs.Table.{point_at}
-use Rattle.points.proofs.Counts.{at_most_64}
 use Rattle.soft.specs.Tree.{page}
-use Rattle.soft.proofs.Prefix.{length_page}
-use Rattle.demap.specs.Demap.{metric_of, metrics_of}
+use Rattle.demap.specs.Demap.{metric_of}
 use Rattle.demap.proofs.metrics.metrics.Given as goal
 
 abbrev pub invariant-loop-k : goal.invariant-loop-k

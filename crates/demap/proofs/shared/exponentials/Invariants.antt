@@ -1,18 +1,12 @@
 use Prim.Native.Nat.{ℕ, ◌≤◌, ◌-◌}
 use mathlib.Core.Path.{◌≡◌}
 use mathlib.Core.List.{◌++◌}
-use borrow.Author.Rules.{rules}
-use native.Mathlib.Omega.{arith}
 use lib.ListN.{drop}
 use Rattle.seq.specs.Tab.{tab}
-use Rattle.seq.specs.Tab.Laws.{tab_none, tab_step}
 use Rattle.ieee.specs.Num.{◌⊟◌}
 use Rattle.elementary.specs.Exp.{exp_at}
-use Rattle.points.proofs.Counts.{at_most_64}
 use Rattle.soft.specs.Tree.{page}
-use Rattle.soft.proofs.Prefix.{length_page}
 use Rattle.demap.specs.Demap.{at}
-use Rattle.demap.proofs.Sharing.{tabbed_at}
 use Rattle.demap.proofs.shared.exponentials.Given as goal
 
 abbrev pub invariant-loop-k : goal.invariant-loop-k

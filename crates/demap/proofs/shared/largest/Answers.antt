@@ -1,5 +1,4 @@
 -- `largest` is below no metric of either half.
-use borrow.Author.Rules.{rules}
 use Rattle.demap.proofs.Sharing.{largest_over}
 use Rattle.demap.proofs.shared.largest.Goals as goal
 

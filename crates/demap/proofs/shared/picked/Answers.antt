@@ -1,5 +1,4 @@
 -- `picked` by its branch.
-use borrow.Author.Rules.{rules}
 use Rattle.demap.proofs.shared.picked.Goals as goal
 
 pub returns-then-own : goal.returns-then-own

@@ -1,9 +1,6 @@
 -- `picked_sum` by the state of its loop.
-use Prim.Native.Nat.{◌≤◌, ◌-◌}
-use mathlib.Core.Path.{◌≡◌}
 use borrow.Author.Rules.{rules}
 use native.Mathlib.Omega.{arith}
-use Rattle.seq.specs.Loop.{for}
 use Rattle.seq.specs.Loop.Laws.{for_none, for_step, for_end}
 use Rattle.ieee.specs.Num.{zero32}
 use Rattle.points.proofs.Counts.{at_most_64}

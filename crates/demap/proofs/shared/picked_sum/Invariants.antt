@@ -1,12 +1,8 @@
 use Prim.Native.Nat.{◌≤◌, ◌-◌}
 use mathlib.Core.Path.{◌≡◌}
-use borrow.Author.Rules.{rules}
-use native.Mathlib.Omega.{arith}
 use Rattle.seq.specs.Loop.{for}
-use Rattle.seq.specs.Loop.Laws.{for_none, for_step, for_end}
 use Rattle.ieee.specs.Num.{zero32}
-use Rattle.points.proofs.Counts.{at_most_64}
-use Rattle.demap.specs.Shared.{pick_turn, picked_of}
+use Rattle.demap.specs.Shared.{pick_turn}
 use Rattle.demap.proofs.shared.picked_sum.Given as goal
 
 abbrev pub invariant-loop-k : goal.invariant-loop-k

@@ -1,12 +1,9 @@
 -- `copy` has written the numbers below i, and nothing past them.
-use Prim.Native.Nat.{◌-◌, ◌≤◌}
-use mathlib.Core.Path.{◌≡◌, refl}
-use mathlib.Core.List.{◌++◌}
+use mathlib.Core.Path.{refl}
 use native.Mathlib.Omega.{arith}
 use borrow.Author.Rules.{rules}
-use lib.ListN.{length, drop, get_or, length-set}
+use lib.ListN.{get_or, length-set}
 use lib.Ieee.{nan}
-use Rattle.seq.specs.Tab.{tab}
 use Rattle.seq.specs.Tab.Laws.{tab_none, tab_step, tab_end}
 use Rattle.dsp.proofs.lists.copy.Goals as goal
 

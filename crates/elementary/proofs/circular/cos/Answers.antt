@@ -5,7 +5,7 @@ use Rattle.elementary.proofs.Products.{Small}
 use Rattle.elementary.proofs.Quarters.{cos_at_nan, cos_at_is}
 use Rattle.ieee.proofs.Floats.{is_no_nan, quotient_nan64}
 use lib.Ieee.Compare.{differs_from_itself}
-use Rattle.std.proofs.Common.{ℕ, T, sym, ap, ◌∙◌, subst, rules}
+use Rattle.std.proofs.Common.{ℕ, T, sym, ap, ◌∙◌, subst}
 use Rattle.elementary.proofs.circular.cos.Goals as goal
 use Rattle.elementary.proofs.circular.cos.Goals.{Else-p}
 

@@ -1,8 +1,7 @@
 -- `elementary::cos_steps` meets its contract. The invariant: the turns that are left, from c, give what all seven give from one. Assumes nothing.
-use Rattle.std.proofs.Common.{◌≡◌, ◌-◌, ◌*◌, ◌≤◌, sym, refl, ◌∙◌, arith, lit≤, rules}
+use Rattle.std.proofs.Common.{◌-◌, ◌*◌, sym, refl, ◌∙◌, arith, lit≤}
 use Rattle.elementary.proofs.Turns.{turn_at, turn_none}
 use Rattle.elementary.proofs.TurnBounds.{wave_product, wave_term, cos_divisor, cos_divisor_le}
-use Rattle.elementary.specs.FixedPoint.{B, turns}
 use Rattle.elementary.specs.Circular.{cos_turn, cos_sum}
 use Rattle.elementary.proofs.circular.cos_steps.Goals as goal
 

@@ -1,6 +1,4 @@
-use Rattle.std.proofs.Common.{◌≡◌, ◌-◌, ◌*◌, ◌≤◌, sym, refl, ◌∙◌, arith, lit≤, rules}
-use Rattle.elementary.proofs.Turns.{turn_at, turn_none}
-use Rattle.elementary.proofs.TurnBounds.{wave_product, wave_term, cos_divisor, cos_divisor_le}
+use Rattle.std.proofs.Common.{◌≡◌, ◌-◌, ◌≤◌}
 use Rattle.elementary.specs.FixedPoint.{B, turns}
 use Rattle.elementary.specs.Circular.{cos_turn, cos_sum}
 use Rattle.elementary.proofs.circular.cos_steps.Given as goal

@@ -5,7 +5,7 @@ use Rattle.elementary.proofs.Products.{Small}
 use Rattle.elementary.proofs.Quarters.{sin_at_nan, sin_at_plus, sin_at_minus}
 use Rattle.ieee.proofs.Floats.{is_no_nan, quotient_nan64}
 use lib.Ieee.Compare.{differs_from_itself}
-use Rattle.std.proofs.Common.{ℕ, T, sym, ap, ◌∙◌, subst, rules}
+use Rattle.std.proofs.Common.{ℕ, T, sym, ap, ◌∙◌, subst}
 use lib.Ieee.{neg}
 use Rattle.elementary.proofs.circular.sin.Goals as goal
 use Rattle.elementary.proofs.circular.sin.Goals.{Else-p}

@@ -1,8 +1,7 @@
 -- `elementary::sin_steps` meets its contract. The invariant: the turns that are left, from s, give what all eight give from one. Assumes nothing.
-use Rattle.std.proofs.Common.{◌≡◌, ◌+◌, ◌*◌, ◌≤◌, sym, refl, ◌∙◌, arith, lit≤, rules}
+use Rattle.std.proofs.Common.{◌+◌, ◌*◌, sym, refl, ◌∙◌, arith, lit≤}
 use Rattle.elementary.proofs.Turns.{turn_at, turn_none}
 use Rattle.elementary.proofs.TurnBounds.{wave_product, wave_term, sin_divisor, sin_divisor_le}
-use Rattle.elementary.specs.FixedPoint.{B, turns}
 use Rattle.elementary.specs.Circular.{sin_turn, sin_sum}
 use Rattle.elementary.proofs.circular.sin_steps.Goals as goal
 

@@ -1,5 +1,5 @@
 -- `elementary::sine` meets its contract. Assumes nothing.
-use Rattle.std.proofs.Common.{le_of_lt, mul-le-mul, arith, rules}
+use Rattle.std.proofs.Common.{le_of_lt, mul-le-mul, arith}
 use Rattle.elementary.proofs.circular.sine.Goals as goal
 
 pub overflow_mul-result : goal.overflow_mul-result

@@ -1,6 +1,6 @@
 -- `elementary::taken` meets its contract. Assumes nothing.
 use Rattle.elementary.proofs.TurnBounds.{wave_product}
-use Rattle.std.proofs.Common.{arith, rules}
+use Rattle.std.proofs.Common.{arith}
 use Rattle.elementary.proofs.circular.taken.Goals as goal
 
 pub overflow_mul-result : goal.overflow_mul-result

@@ -1,5 +1,5 @@
 -- `elementary::turn` meets its contract: each arm has its quarter and the one sum that it needs. Assumes nothing.
-use Rattle.std.proofs.Common.{ℕ, ◌*◌, ◌/◌, ap, ◌∙◌, arith, rules}
+use Rattle.std.proofs.Common.{ℕ, ◌*◌, ◌/◌, ap, ◌∙◌, arith}
 use lib.Ieee.{binary64}
 use Rattle.elementary.specs.FixedPoint.{B, over}
 use Rattle.elementary.specs.Circular.{sin_sum, cos_sum}

@@ -1,5 +1,5 @@
 -- `elementary::wave` meets its contract. Assumes nothing.
-use Rattle.std.proofs.Common.{arith, rules}
+use Rattle.std.proofs.Common.{arith}
 use Rattle.elementary.specs.Circular.{sin_part, cos_taken, wave_at}
 use Rattle.elementary.proofs.Quarters.{square_le, square_cut}
 use Rattle.elementary.proofs.circular.wave.Goals as goal

@@ -1,6 +1,6 @@
 -- `elementary::horner` meets its contract. The invariant: the steps that are left, from p, give what all twelve give from one. Assumes nothing.
-use Rattle.std.proofs.Common.{◌≡◌, ℕ, ◌-◌, ◌*◌, ◌/◌, ◌<◌, ◌≤◌, sym, refl, ◌∙◌, lt_of_le_of_lt, le_of_lt, mul-le-mul, arith, lit<}
-use Rattle.elementary.specs.FixedPoint.{M, L, turns}
+use Rattle.std.proofs.Common.{ℕ, ◌-◌, ◌*◌, ◌/◌, ◌<◌, ◌≤◌, sym, refl, ◌∙◌, lt_of_le_of_lt, le_of_lt, mul-le-mul, arith, lit<}
+use Rattle.elementary.specs.FixedPoint.{M, L}
 use Rattle.elementary.specs.Exp.{exp_turn, exp_sum}
 use Rattle.elementary.proofs.Turns.{turn_at, turn_none}
 use Rattle.elementary.proofs.TurnBounds.{exp_term}

@@ -1,8 +1,6 @@
-use Rattle.std.proofs.Common.{◌≡◌, ℕ, ◌-◌, ◌*◌, ◌/◌, ◌<◌, ◌≤◌, sym, refl, ◌∙◌, lt_of_le_of_lt, le_of_lt, mul-le-mul, arith, lit<}
-use Rattle.elementary.specs.FixedPoint.{M, L, turns}
+use Rattle.std.proofs.Common.{◌≡◌, ◌<◌, ◌≤◌}
+use Rattle.elementary.specs.FixedPoint.{M, turns}
 use Rattle.elementary.specs.Exp.{exp_turn, exp_sum}
-use Rattle.elementary.proofs.Turns.{turn_at, turn_none}
-use Rattle.elementary.proofs.TurnBounds.{exp_term}
 use Rattle.elementary.proofs.exponential.horner.Given as goal
 
 abbrev pub invariant-loop-j : goal.invariant-loop-j

@@ -1,6 +1,5 @@
 -- `elementary::fixed_bits` meets its contract. Assumes nothing.
 use Rattle.elementary.proofs.WholePart.{whole_large, whole_mid, whole_small}
-use Rattle.std.proofs.Common.{arith}
 use Rattle.elementary.proofs.fixed.fixed_bits.Goals as goal
 
 pub returns-then-e-ge118 : goal.returns-then-e-ge118

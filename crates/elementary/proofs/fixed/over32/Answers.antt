@@ -1,5 +1,5 @@
 -- `elementary::over32` meets its contract. The two arms are the two signs of `over`. Assumes nothing.
-use Rattle.std.proofs.Common.{◌-◌, false, sym, ap, ◌∙◌, rules}
+use Rattle.std.proofs.Common.{◌-◌, false, sym, ap, ◌∙◌}
 use lib.Ieee.{binary32, neg}
 use Rattle.elementary.specs.FixedPoint.{M}
 use Rattle.elementary.proofs.Quotients.{neg_round, over_le, over_lt}

@@ -1,7 +1,7 @@
 -- `elementary::over64` meets its contract. The two arms are the two signs of `over`. Assumes nothing.
 use Rattle.elementary.proofs.Quotients.{over64_le, over64_lt}
 use lib.Ieee.{in_float}
-use Rattle.std.proofs.Common.{ℕ, ◌-◌, ◌^◌, ◌<◌, ◌≤◌, arith, le→leb, rules}
+use Rattle.std.proofs.Common.{ℕ, ◌-◌, ◌^◌, ◌<◌, ◌≤◌, arith, le→leb}
 use Rattle.elementary.proofs.fixed.over64.Goals as goal
 
 fits_cast : (a b : ℕ) → a < 2 ^ 53 → a - b ≤ 2 ^ 53

@@ -1,7 +1,7 @@
 -- `elementary::gain` meets its contract. Assumes nothing.
 use Rattle.elementary.specs.Gain.{gain_at}
 use lib.Ieee.{binary32, of_bits}
-use Rattle.std.proofs.Common.{◌≡◌, ℕ, zero, suc, refl, rules}
+use Rattle.std.proofs.Common.{◌≡◌, ℕ, zero, suc, refl}
 use Rattle.elementary.proofs.gains.gain.Goals as goal
 
 last : (q : ℕ) → (q ≡ 0 → ⊥) → (q ≡ 1 → ⊥) → (q ≡ 2 → ⊥) → of_bits binary32 1067833616 ≡ gain_at q

@@ -9,7 +9,7 @@ use Rattle.elementary.proofs.LnParts.{t_lt, ln1p_at_nan, ln1p_at_is}
 use Rattle.ieee.proofs.Floats.{is_no_nan, quotient_nan}
 use lib.Ieee.Bits.{of_bits-to_bits}
 use lib.Ieee.Compare.{differs_from_itself}
-use Rattle.std.proofs.Common.{◌≡◌, ℕ, ◌+◌, ◌*◌, ◌/◌, ◌≤◌, false, T, sym, ap, ◌∙◌, subst, arith, rules}
+use Rattle.std.proofs.Common.{◌≡◌, ℕ, ◌+◌, ◌*◌, ◌/◌, ◌≤◌, false, T, sym, ap, ◌∙◌, subst, arith}
 use lib.Ieee.{Float, binary32, fits, of_bits, to_bits, round}
 use Rattle.elementary.proofs.logarithm.ln_1p.Goals as goal
 use Rattle.elementary.proofs.logarithm.ln_1p.Goals.{After-fixed_bits-q, Else-t, Start}

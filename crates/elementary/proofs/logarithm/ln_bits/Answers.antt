@@ -2,7 +2,7 @@
 use lib.Ieee.{binary32}
 use Rattle.elementary.specs.FixedPoint.{M, L, over}
 use Rattle.elementary.proofs.LnParts.{z_lt, ln_parts_lem}
-use Rattle.std.proofs.Common.{ℕ, ◌+◌, ◌*◌, ◌/◌, ◌%◌, sym, ap, ◌∙◌, arith, rules}
+use Rattle.std.proofs.Common.{ℕ, ◌+◌, ◌*◌, ◌/◌, ◌%◌, sym, ap, ◌∙◌, arith}
 use Rattle.elementary.proofs.logarithm.ln_bits.Goals as goal
 
 pub odd-requires : goal.odd-requires

@@ -1,8 +1,7 @@
 -- `elementary::odd_series` meets its contract. The invariant: the turns that are left, from s, give what all eleven give from 0. Assumes nothing.
-use Rattle.std.proofs.Common.{◌≡◌, ◌-◌, ◌^◌, ◌≤◌, sym, refl, ◌∙◌, arith, lit≤, rules}
+use Rattle.std.proofs.Common.{◌-◌, sym, refl, ◌∙◌, arith, lit≤}
 use Rattle.elementary.proofs.Turns.{turn_at, turn_none}
 use Rattle.elementary.proofs.TurnBounds.{odd_product, odd_turn_lem}
-use Rattle.elementary.specs.FixedPoint.{turns}
 use Rattle.elementary.specs.Ln.{odd_turn, odd_sum}
 use Rattle.elementary.proofs.logarithm.odd_series.Goals as goal
 

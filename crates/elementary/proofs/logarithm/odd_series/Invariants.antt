@@ -1,6 +1,4 @@
-use Rattle.std.proofs.Common.{◌≡◌, ◌-◌, ◌^◌, ◌≤◌, sym, refl, ◌∙◌, arith, lit≤, rules}
-use Rattle.elementary.proofs.Turns.{turn_at, turn_none}
-use Rattle.elementary.proofs.TurnBounds.{odd_product, odd_turn_lem}
+use Rattle.std.proofs.Common.{◌≡◌, ◌^◌, ◌≤◌}
 use Rattle.elementary.specs.FixedPoint.{turns}
 use Rattle.elementary.specs.Ln.{odd_turn, odd_sum}
 use Rattle.elementary.proofs.logarithm.odd_series.Given as goal

@@ -1,5 +1,4 @@
 -- `canceller::add` is the definition's lines on the sums.
-use borrow.Author.Rules.{rules}
 use Rattle.equalize.specs.Sic.{added}
 use Rattle.equalize.proofs.canceller.add.Goals as goal
 

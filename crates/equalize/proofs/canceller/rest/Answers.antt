@@ -1,5 +1,4 @@
 -- `canceller::rest` is the product that it names.
-use borrow.Author.Rules.{rules}
 use Rattle.equalize.proofs.canceller.rest.Goals as goal
 
 pub returns : goal.returns

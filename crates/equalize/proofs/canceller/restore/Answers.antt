@@ -1,11 +1,7 @@
 -- `canceller::restore` has written those below j, and number j is still the old one.
-use Prim.Native.Nat.{◌-◌, ◌*◌, ◌≤◌}
-use mathlib.Core.Path.{◌≡◌, refl, ◌∙◌}
-use mathlib.Core.List.{◌++◌}
+use mathlib.Core.Path.{refl, ◌∙◌}
 use native.Mathlib.Omega.{arith}
-use borrow.Author.Rules.{rules}
-use lib.ListN.{length, drop}
-use Rattle.spread.proofs.Pairs.{pairs, pairs_none, pairs_step, pairs_end}
+use Rattle.spread.proofs.Pairs.{pairs_none, pairs_step, pairs_end}
 use Rattle.equalize.specs.Sic.{restored_at, restored}
 use Rattle.equalize.proofs.Stages.{at_next}
 use Rattle.equalize.proofs.canceller.restore.Goals as goal

@@ -1,12 +1,9 @@
 use Prim.Native.Nat.{◌-◌, ◌*◌, ◌≤◌}
-use mathlib.Core.Path.{◌≡◌, refl, ◌∙◌}
+use mathlib.Core.Path.{◌≡◌}
 use mathlib.Core.List.{◌++◌}
-use native.Mathlib.Omega.{arith}
-use borrow.Author.Rules.{rules}
 use lib.ListN.{length, drop}
-use Rattle.spread.proofs.Pairs.{pairs, pairs_none, pairs_step, pairs_end}
-use Rattle.equalize.specs.Sic.{restored_at, restored}
-use Rattle.equalize.proofs.Stages.{at_next}
+use Rattle.spread.proofs.Pairs.{pairs}
+use Rattle.equalize.specs.Sic.{restored_at}
 use Rattle.equalize.proofs.canceller.restore.Given as goal
 
 abbrev pub invariant-loop-j : goal.invariant-loop-j

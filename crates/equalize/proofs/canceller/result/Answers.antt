@@ -1,5 +1,4 @@
 -- `canceller::result` is the definition's.
-use borrow.Author.Rules.{rules}
 use Rattle.equalize.specs.Sic.{result_of}
 use Rattle.equalize.proofs.canceller.result.Goals as goal
 

@@ -1,5 +1,4 @@
 -- `canceller::sic` by its stages.
-use borrow.Author.Rules.{rules}
 use Rattle.equalize.proofs.SicStages.{sic_answer}
 use Rattle.equalize.proofs.canceller.sic.Goals as goal
 

@@ -1,5 +1,4 @@
 -- `canceller::spread_copy` spreads the copy, which has what the list had.
-use borrow.Author.Rules.{rules}
 use Rattle.equalize.proofs.SicStages.{spread_answer}
 use Rattle.equalize.proofs.canceller.spread_copy.Goals as goal
 

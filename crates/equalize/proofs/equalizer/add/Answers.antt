@@ -1,5 +1,4 @@
 -- `equalizer::add` is the definition's lines on the sums.
-use borrow.Author.Rules.{rules}
 use Rattle.equalize.specs.Fde.{added}
 use Rattle.equalize.proofs.equalizer.add.Goals as goal
 

@@ -1,13 +1,10 @@
 use Prim.Native.Nat.{◌-◌, ◌*◌, ◌≤◌}
-use mathlib.Core.Path.{◌≡◌, refl, ◌∙◌}
+use mathlib.Core.Path.{◌≡◌}
 use mathlib.Core.List.{◌++◌}
-use native.Mathlib.Omega.{arith}
-use borrow.Author.Rules.{rules}
 use lib.ListN.{length, drop}
 use Rattle.seq.specs.Loop.{for}
-use Rattle.seq.specs.Loop.Laws.{for_none, for_step, for_end}
-use Rattle.spread.proofs.Pairs.{pairs, pairs_none, pairs_step, pairs_end}
-use Rattle.equalize.specs.Fde.{none, turn, weight, filtered, carriers_of}
+use Rattle.spread.proofs.Pairs.{pairs}
+use Rattle.equalize.specs.Fde.{none, turn, filtered}
 use Rattle.equalize.proofs.equalizer.equalize.Given as goal
 
 abbrev pub invariant-loop-j : goal.invariant-loop-j

@@ -1,5 +1,4 @@
 -- `equalizer::fde` by its stages.
-use borrow.Author.Rules.{rules}
 use Rattle.equalize.proofs.FdeStages.{fde_answer}
 use Rattle.equalize.proofs.equalizer.fde.Goals as goal
 

@@ -1,5 +1,4 @@
 -- `equalizer::result` is the definition's.
-use borrow.Author.Rules.{rules}
 use Rattle.equalize.specs.Fde.{result_of}
 use Rattle.equalize.proofs.equalizer.result.Goals as goal
 

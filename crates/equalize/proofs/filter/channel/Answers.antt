@@ -1,5 +1,4 @@
 -- `filter::channel` is the definition's line.
-use borrow.Author.Rules.{rules}
 use Rattle.equalize.specs.Filter.{channel_of}
 use Rattle.equalize.proofs.filter.channel.Goals as goal
 

@@ -1,5 +1,4 @@
 -- `filter::filter` is the definition's line.
-use borrow.Author.Rules.{rules}
 use Rattle.equalize.specs.Filter.{filter_of}
 use Rattle.equalize.proofs.filter.filter.Goals as goal
 

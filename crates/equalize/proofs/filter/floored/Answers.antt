@@ -1,5 +1,4 @@
 -- `filter::floored` is the definition's line.
-use borrow.Author.Rules.{rules}
 use Rattle.equalize.specs.Filter.{floored_of}
 use Rattle.equalize.proofs.filter.floored.Goals as goal
 

@@ -1,5 +1,4 @@
 -- `filter::mean_gain` is the definition's line.
-use borrow.Author.Rules.{rules}
 use Rattle.equalize.specs.Filter.{mu_of}
 use Rattle.equalize.proofs.filter.mean_gain.Goals as goal
 

@@ -1,5 +1,4 @@
 -- `filter::passed` is the definition's line.
-use borrow.Author.Rules.{rules}
 use Rattle.equalize.specs.Filter.{passed_of}
 use Rattle.equalize.proofs.filter.passed.Goals as goal
 

@@ -1,5 +1,5 @@
 -- `column_f32` meets its contract.
-use Rattle.std.proofs.Common.{◌≡◌, ◌+◌, ◌-◌, ◌*◌, ◌≤◌, map, length, get_or, take, refl, ap, ◌∙◌, arith, length-set, rules}
+use Rattle.std.proofs.Common.{◌≡◌, ◌+◌, ◌*◌, map, length, get_or, refl, ap, ◌∙◌, arith, length-set}
 use lib.Ieee.{nan}
 use lib.Seq.{take-length}
 use Rattle.est.specs.Columns.{column3}

@@ -1,8 +1,5 @@
-use Rattle.std.proofs.Common.{◌≡◌, ◌+◌, ◌-◌, ◌*◌, ◌≤◌, map, length, get_or, take, refl, ap, ◌∙◌, arith, length-set, rules}
+use Rattle.std.proofs.Common.{◌≡◌, ◌+◌, ◌-◌, ◌*◌, ◌≤◌, map, length, get_or, take}
 use lib.Ieee.{nan}
-use lib.Seq.{take-length}
-use Rattle.est.specs.Columns.{column3}
-use Rattle.near.proofs.Selected.{mapped_more}
 use Rattle.est.proofs.column.column_f32.Given as goal
 
 abbrev pub invariant-loop-j : goal.invariant-loop-j

@@ -1,5 +1,5 @@
 -- `column_u32` meets its contract.
-use Rattle.std.proofs.Common.{◌≡◌, ◌-◌, ◌≤◌, map, length, get_or, take, refl, ap, ◌∙◌, arith, length-set, rules}
+use Rattle.std.proofs.Common.{◌≡◌, map, length, get_or, refl, ap, ◌∙◌, arith, length-set}
 use lib.Seq.{take-length}
 use Rattle.est.specs.Columns.{column}
 use Rattle.near.proofs.Selected.{mapped_more}

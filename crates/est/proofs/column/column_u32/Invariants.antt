@@ -1,7 +1,4 @@
-use Rattle.std.proofs.Common.{◌≡◌, ◌-◌, ◌≤◌, map, length, get_or, take, refl, ap, ◌∙◌, arith, length-set, rules}
-use lib.Seq.{take-length}
-use Rattle.est.specs.Columns.{column}
-use Rattle.near.proofs.Selected.{mapped_more}
+use Rattle.std.proofs.Common.{◌≡◌, ◌-◌, ◌≤◌, map, length, get_or, take}
 use Rattle.est.proofs.column.column_u32.Given as goal
 
 abbrev pub invariant-loop-j : goal.invariant-loop-j

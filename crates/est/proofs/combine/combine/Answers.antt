@@ -1,5 +1,5 @@
 -- `combine` meets its contract.
-use Rattle.std.proofs.Common.{◌≡◌, length, rules}
+use Rattle.std.proofs.Common.{◌≡◌, length}
 use Rattle.est.specs.Estimate.{sums, combined}
 use Rattle.est.proofs.combine.combine.Goals as goal
 

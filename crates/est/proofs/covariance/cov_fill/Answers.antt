@@ -1,8 +1,7 @@
 -- `cov_fill` meets its contract.
-use Rattle.seq.specs.Loop.{for}
 use Rattle.seq.specs.Loop.Laws.{for_none, for_step, for_end}
-use Rattle.est.specs.Covariance.{zeros2, row_var, cov_of}
-use Rattle.std.proofs.Common.{◌≡◌, ◌-◌, ◌≤◌, length, refl, arith, rules}
+use Rattle.est.specs.Covariance.{cov_of}
+use Rattle.std.proofs.Common.{refl, arith}
 use Rattle.est.proofs.covariance.cov_fill.Goals as goal
 
 pub loop-i-init : goal.loop-i-init

@@ -1,7 +1,6 @@
 use Rattle.seq.specs.Loop.{for}
-use Rattle.seq.specs.Loop.Laws.{for_none, for_step, for_end}
-use Rattle.est.specs.Covariance.{zeros2, row_var, cov_of}
-use Rattle.std.proofs.Common.{◌≡◌, ◌-◌, ◌≤◌, length, refl, arith, rules}
+use Rattle.est.specs.Covariance.{zeros2, row_var}
+use Rattle.std.proofs.Common.{◌≡◌, ◌-◌, ◌≤◌, length}
 use Rattle.est.proofs.covariance.cov_fill.Given as goal
 
 abbrev pub invariant-loop-i : goal.invariant-loop-i

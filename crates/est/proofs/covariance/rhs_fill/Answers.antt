@@ -1,9 +1,7 @@
 -- `rhs_fill` meets its contract.
-use Rattle.seq.specs.Loop.{for}
 use Rattle.seq.specs.Loop.Laws.{for_none, for_step, for_end}
-use Rattle.solve.specs.Solve.{zeros}
 use Rattle.est.specs.Covariance.{rhs_at, rhs_of}
-use Rattle.std.proofs.Common.{◌≡◌, ◌-◌, ◌<◌, ◌≤◌, length, refl, arith, rules}
+use Rattle.std.proofs.Common.{◌<◌, length, refl, arith}
 use Rattle.est.proofs.covariance.rhs_fill.Goals as goal
 
 pub loop-i-init : goal.loop-i-init

@@ -1,8 +1,7 @@
 use Rattle.seq.specs.Loop.{for}
-use Rattle.seq.specs.Loop.Laws.{for_none, for_step, for_end}
 use Rattle.solve.specs.Solve.{zeros}
-use Rattle.est.specs.Covariance.{rhs_at, rhs_of}
-use Rattle.std.proofs.Common.{◌≡◌, ◌-◌, ◌<◌, ◌≤◌, length, refl, arith, rules}
+use Rattle.est.specs.Covariance.{rhs_at}
+use Rattle.std.proofs.Common.{◌≡◌, ◌-◌, ◌≤◌, length}
 use Rattle.est.proofs.covariance.rhs_fill.Given as goal
 
 abbrev pub invariant-loop-i : goal.invariant-loop-i

@@ -1,8 +1,7 @@
 -- `row_fill` meets its contract.
-use Rattle.seq.specs.Loop.{for}
 use Rattle.seq.specs.Loop.Laws.{for_none, for_step, for_end, turn_more, turn_less}
 use Rattle.est.specs.Covariance.{pair, entry, row}
-use Rattle.std.proofs.Common.{◌≡◌, ◌+◌, ◌-◌, ◌<◌, ◌≤◌, length, sym, refl, le_trans, le_of_eq, lt_of_lt_of_le, arith}
+use Rattle.std.proofs.Common.{sym, refl, le_trans, le_of_eq, lt_of_lt_of_le, arith}
 use Prim.Native.Nat.{zero-le}
 use Rattle.est.proofs.Indices.{offset_fits, next_fits, turn_below}
 use Rattle.est.proofs.covariance.row_fill.Goals as goal

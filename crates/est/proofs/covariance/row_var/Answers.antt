@@ -1,6 +1,5 @@
 -- `row_var` meets its contract.
 use Rattle.est.specs.Covariance.{row_var}
-use Rattle.std.proofs.Common.{rules}
 use Rattle.est.proofs.covariance.row_var.Goals as goal
 
 pub returns : goal.returns

@@ -1,7 +1,6 @@
 -- `rt_fill` meets its contract: each turn writes one element of the table.
-use Rattle.std.proofs.Common.{◌≡◌, ◌+◌, ◌-◌, ◌*◌, ◌≤◌, ◌++◌, length, drop, refl, arith, le→leb, length-set, rules}
+use Rattle.std.proofs.Common.{refl, arith, le→leb, length-set}
 use lib.Ieee.{in_float}
-use Rattle.seq.specs.Tab.{tab}
 use Rattle.seq.specs.Tab.Laws.{tab_none, tab_step}
 use Rattle.est.specs.Model.{rt_at, rt_of}
 use Rattle.est.proofs.Angles.{rt_angle}

@@ -1,10 +1,6 @@
-use Rattle.std.proofs.Common.{◌≡◌, ◌+◌, ◌-◌, ◌*◌, ◌≤◌, ◌++◌, length, drop, refl, arith, le→leb, length-set, rules}
-use lib.Ieee.{in_float}
+use Rattle.std.proofs.Common.{◌≡◌, ◌+◌, ◌-◌, ◌*◌, ◌≤◌, ◌++◌, length, drop}
 use Rattle.seq.specs.Tab.{tab}
-use Rattle.seq.specs.Tab.Laws.{tab_none, tab_step}
-use Rattle.est.specs.Model.{rt_at, rt_of}
-use Rattle.est.proofs.Angles.{rt_angle}
-use Rattle.est.proofs.Tables.{tab_full}
+use Rattle.est.specs.Model.{rt_at}
 use Rattle.est.proofs.model.rt_fill.Given as goal
 
 abbrev pub invariant-loop-i : goal.invariant-loop-i

@@ -1,5 +1,5 @@
 -- `set_model` meets its contract.
-use Rattle.std.proofs.Common.{arith, le→leb, rules}
+use Rattle.std.proofs.Common.{arith, le→leb}
 use lib.Ieee.{in_float}
 use Rattle.est.specs.Model.{scales_of}
 use Rattle.est.proofs.model.set_model.Goals as goal

@@ -1,6 +1,5 @@
 -- `sinc` meets its contract.
 use Rattle.est.specs.Model.{sinc}
-use Rattle.std.proofs.Common.{rules}
 use Rattle.est.proofs.model.sinc.Goals as goal
 
 pub returns-then-abs64 : goal.returns-then-abs64

@@ -1,8 +1,7 @@
 -- `mse_row` meets its contract.
-use Rattle.seq.specs.Loop.{for}
 use Rattle.seq.specs.Loop.Laws.{for_none, for_step, for_end}
 use Rattle.est.specs.Weights.{plus_term, mse_row}
-use Rattle.std.proofs.Common.{◌≡◌, ◌-◌, ◌≤◌, arith, rules}
+use Rattle.std.proofs.Common.{arith}
 use Rattle.est.proofs.sums.mse_row.Goals as goal
 
 pub loop-j-init : goal.loop-j-init

@@ -1,7 +1,6 @@
 use Rattle.seq.specs.Loop.{for}
-use Rattle.seq.specs.Loop.Laws.{for_none, for_step, for_end}
-use Rattle.est.specs.Weights.{plus_term, mse_row}
-use Rattle.std.proofs.Common.{◌≡◌, ◌-◌, ◌≤◌, arith, rules}
+use Rattle.est.specs.Weights.{plus_term}
+use Rattle.std.proofs.Common.{◌≡◌, ◌-◌, ◌≤◌}
 use Rattle.est.proofs.sums.mse_row.Given as goal
 
 abbrev pub invariant-loop-j : goal.invariant-loop-j

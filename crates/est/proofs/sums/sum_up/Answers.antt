@@ -1,10 +1,8 @@
 -- `sum_up` meets its contract: each turn adds one pilot's part of the estimate and of its error.
-use Rattle.seq.specs.Loop.{for}
 use Rattle.seq.specs.Loop.Laws.{for_none, for_step, for_end}
-use Rattle.dsp.specs.Arithmetic.{zeroᶜ}
-use Rattle.est.specs.Weights.{turn, sums_of}
-use Rattle.est.proofs.Turns.{sums, turned}
-use Rattle.std.proofs.Common.{◌≡◌, ◌-◌, ◌≤◌, length, refl, arith, rules}
+use Rattle.est.specs.Weights.{sums_of}
+use Rattle.est.proofs.Turns.{turned}
+use Rattle.std.proofs.Common.{refl, arith}
 use Rattle.est.proofs.sums.sum_up.Goals as goal
 
 pub loop-i-init : goal.loop-i-init

@@ -1,9 +1,8 @@
 use Rattle.seq.specs.Loop.{for}
-use Rattle.seq.specs.Loop.Laws.{for_none, for_step, for_end}
 use Rattle.dsp.specs.Arithmetic.{zeroᶜ}
-use Rattle.est.specs.Weights.{turn, sums_of}
-use Rattle.est.proofs.Turns.{sums, turned}
-use Rattle.std.proofs.Common.{◌≡◌, ◌-◌, ◌≤◌, length, refl, arith, rules}
+use Rattle.est.specs.Weights.{turn}
+use Rattle.est.proofs.Turns.{sums}
+use Rattle.std.proofs.Common.{◌≡◌, ◌-◌, ◌≤◌, length}
 use Rattle.est.proofs.sums.sum_up.Given as goal
 
 abbrev pub invariant-loop-i : goal.invariant-loop-i

@@ -1,8 +1,7 @@
 -- `divide_all` meets its contract.
-use Rattle.seq.specs.Loop.{for}
 use Rattle.seq.specs.Loop.Laws.{for_none, for_step, for_end}
 use Rattle.est.specs.Weights.{over, divide_all}
-use Rattle.std.proofs.Common.{◌≡◌, ◌-◌, ◌≤◌, refl, arith, rules}
+use Rattle.std.proofs.Common.{refl, arith}
 use Rattle.est.proofs.weights.divide_all.Goals as goal
 
 pub loop-i-init : goal.loop-i-init

@@ -1,7 +1,6 @@
 use Rattle.seq.specs.Loop.{for}
-use Rattle.seq.specs.Loop.Laws.{for_none, for_step, for_end}
-use Rattle.est.specs.Weights.{over, divide_all}
-use Rattle.std.proofs.Common.{◌≡◌, ◌-◌, ◌≤◌, refl, arith, rules}
+use Rattle.est.specs.Weights.{over}
+use Rattle.std.proofs.Common.{◌≡◌, ◌-◌, ◌≤◌}
 use Rattle.est.proofs.weights.divide_all.Given as goal
 
 abbrev pub invariant-loop-i : goal.invariant-loop-i

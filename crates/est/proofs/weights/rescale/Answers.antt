@@ -1,6 +1,5 @@
 -- `rescale` meets its contract.
 use Rattle.est.specs.Weights.{rescaled}
-use Rattle.std.proofs.Common.{rules}
 use Rattle.est.proofs.weights.rescale.Goals as goal
 
 pub returns-then-s : goal.returns-then-s

@@ -1,9 +1,7 @@
 -- `sum` meets its contract.
-use Rattle.seq.specs.Loop.{for}
 use Rattle.seq.specs.Loop.Laws.{for_none, for_step, for_end}
-use Rattle.est.specs.Constants.{minus_zero}
 use Rattle.est.specs.Weights.{plus, sum_of}
-use Rattle.std.proofs.Common.{◌≡◌, ◌-◌, ◌≤◌, refl, arith, rules}
+use Rattle.std.proofs.Common.{refl, arith}
 use Rattle.est.proofs.weights.sum.Goals as goal
 
 pub loop-i-init : goal.loop-i-init

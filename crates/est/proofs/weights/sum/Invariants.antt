@@ -1,8 +1,7 @@
 use Rattle.seq.specs.Loop.{for}
-use Rattle.seq.specs.Loop.Laws.{for_none, for_step, for_end}
 use Rattle.est.specs.Constants.{minus_zero}
-use Rattle.est.specs.Weights.{plus, sum_of}
-use Rattle.std.proofs.Common.{◌≡◌, ◌-◌, ◌≤◌, refl, arith, rules}
+use Rattle.est.specs.Weights.{plus}
+use Rattle.std.proofs.Common.{◌≡◌, ◌-◌, ◌≤◌}
 use Rattle.est.proofs.weights.sum.Given as goal
 
 abbrev pub invariant-loop-i : goal.invariant-loop-i

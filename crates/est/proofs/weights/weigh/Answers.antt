@@ -1,6 +1,5 @@
 -- `weigh` meets its contract.
 use Rattle.est.specs.Estimate.{weights}
-use Rattle.std.proofs.Common.{rules}
 use Rattle.est.proofs.weights.weigh.Goals as goal
 
 pub returns : goal.returns

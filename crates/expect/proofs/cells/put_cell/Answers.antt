@@ -1,6 +1,5 @@
 -- `cells::put_cell` writes the three numbers within the list.
 use native.Mathlib.Omega.{arith}
-use borrow.Author.Rules.{rules}
 use lib.ListN.{length-set}
 use Rattle.expect.proofs.cells.put_cell.Goals as goal
 

@@ -1,11 +1,6 @@
 -- `cells::soft_cells` has written those below cell, each from its own stretch of priors, and nothing past them.
-use Prim.Native.Nat.{◌≤◌, ◌+◌, ◌-◌, ◌*◌}
-use mathlib.Core.Path.{◌≡◌, refl, ◌∙◌}
-use mathlib.Core.List.{◌++◌}
+use mathlib.Core.Path.{refl, ◌∙◌}
 use native.Mathlib.Omega.{arith}
-use borrow.Author.Rules.{rules}
-use lib.ListN.{length, drop}
-use Rattle.seq.specs.Cat.{cat}
 use Rattle.seq.specs.Cat.Laws.{cat-none, cat_end, stretch}
 use Rattle.expect.specs.Expect.{soft_at, soft_cells}
 use Rattle.expect.proofs.Written.{cell_step, soft_cell_lem}

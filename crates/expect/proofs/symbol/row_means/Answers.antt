@@ -1,12 +1,10 @@
 -- `symbol::row_means` has written those below j, and nothing past them.
-use Prim.Native.Nat.{ℕ, ◌≤◌, ◌+◌, ◌-◌, ◌*◌}
-use mathlib.Core.Path.{◌≡◌, refl}
-use mathlib.Core.List.{◌++◌}
+use Prim.Native.Nat.{ℕ, ◌+◌, ◌*◌}
+use mathlib.Core.Path.{refl}
 use native.Mathlib.Omega.{arith}
-use borrow.Author.Rules.{rules}
-use lib.ListN.{length, drop, length-set}
+use lib.ListN.{length-set}
 use Rattle.dsp.specs.declared.Complex.{Complex}
-use Rattle.spread.proofs.Pairs.{pairs, pairs_none, pairs_step, pairs_end}
+use Rattle.spread.proofs.Pairs.{pairs_none, pairs_step, pairs_end}
 use Rattle.expect.specs.Expect.{mean_at, row_means}
 use Rattle.expect.proofs.symbol.row_means.Goals as goal
 

@@ -1,12 +1,9 @@
-use Prim.Native.Nat.{ℕ, ◌≤◌, ◌+◌, ◌-◌, ◌*◌}
-use mathlib.Core.Path.{◌≡◌, refl}
+use Prim.Native.Nat.{◌≤◌, ◌+◌, ◌-◌, ◌*◌}
+use mathlib.Core.Path.{◌≡◌}
 use mathlib.Core.List.{◌++◌}
-use native.Mathlib.Omega.{arith}
-use borrow.Author.Rules.{rules}
-use lib.ListN.{length, drop, length-set}
-use Rattle.dsp.specs.declared.Complex.{Complex}
-use Rattle.spread.proofs.Pairs.{pairs, pairs_none, pairs_step, pairs_end}
-use Rattle.expect.specs.Expect.{mean_at, row_means}
+use lib.ListN.{length, drop}
+use Rattle.spread.proofs.Pairs.{pairs}
+use Rattle.expect.specs.Expect.{mean_at}
 use Rattle.expect.proofs.symbol.row_means.Given as goal
 
 abbrev pub invariant-loop-j : goal.invariant-loop-j

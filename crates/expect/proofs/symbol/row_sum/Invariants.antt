@@ -1,11 +1,8 @@
 use Prim.Native.Nat.{◌≤◌, ◌-◌}
-use mathlib.Core.Path.{◌≡◌, refl}
-use native.Mathlib.Omega.{arith}
-use borrow.Author.Rules.{rules}
+use mathlib.Core.Path.{◌≡◌}
 use Rattle.seq.specs.Loop.{for}
-use Rattle.seq.specs.Loop.Laws.{for_none, for_step, for_end}
 use Rattle.points.specs.Power.{minus_zero}
-use Rattle.expect.specs.Expect.{sum_turn, row_sum}
+use Rattle.expect.specs.Expect.{sum_turn}
 use Rattle.expect.proofs.symbol.row_sum.Given as goal
 
 abbrev pub invariant-loop-j : goal.invariant-loop-j

@@ -1,6 +1,5 @@
 -- `symbol::row_variance` rounds as the source does.
 use native.Mathlib.Omega.{arith}
-use borrow.Author.Rules.{rules}
 use Rattle.ieee.proofs.Floats.{counted}
 use Rattle.expect.specs.Expect.{row_variance}
 use Rattle.expect.proofs.symbol.row_variance.Goals as goal

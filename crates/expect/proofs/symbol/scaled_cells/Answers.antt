@@ -1,11 +1,6 @@
 -- `symbol::scaled_cells` has written those below j, and nothing past them.
-use Prim.Native.Nat.{◌≤◌, ◌-◌, ◌*◌}
-use mathlib.Core.Path.{◌≡◌, refl, ◌∙◌}
-use mathlib.Core.List.{◌++◌}
+use mathlib.Core.Path.{refl, ◌∙◌}
 use native.Mathlib.Omega.{arith}
-use borrow.Author.Rules.{rules}
-use lib.ListN.{length, drop}
-use Rattle.seq.specs.Cat.{cat}
 use Rattle.seq.specs.Cat.Laws.{cat-none, cat_end}
 use Rattle.expect.specs.Expect.{scaled_at, scaled_cells}
 use Rattle.expect.proofs.Written.{cell_step}

@@ -1,5 +1,4 @@
 -- `symbol::spread_means`: the transform reads the means alone.
-use borrow.Author.Rules.{rules}
 use Rattle.expect.proofs.Front.{spread_front}
 use Rattle.expect.proofs.symbol.spread_means.Goals as goal
 

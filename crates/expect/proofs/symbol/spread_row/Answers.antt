@@ -1,5 +1,4 @@
 -- `symbol::spread_row` fills its list with the symbol.
-use borrow.Author.Rules.{rules}
 use Rattle.expect.proofs.Front.{row_is}
 use Rattle.expect.proofs.symbol.spread_row.Goals as goal
 

@@ -1,6 +1,5 @@
 -- `symbol::spread_variance` rounds as the source does.
 use native.Mathlib.Omega.{arith}
-use borrow.Author.Rules.{rules}
 use Rattle.ieee.proofs.Floats.{counted}
 use Rattle.expect.specs.Expect.{spread_variance}
 use Rattle.expect.proofs.symbol.spread_variance.Goals as goal

@@ -1,7 +1,5 @@
 -- `within::expect_within` takes the way that the burst's mode says.
-use borrow.Author.Rules.{rules}
 use borrow.Author.Tests.{not-true, not-false}
-
 use lib.ListN.{drop}
 use Rattle.expect.proofs.OneList.{plain_within, spread_again_within}
 use Rattle.expect.proofs.within.expect_within.Goals as goal

@@ -1,11 +1,8 @@
 -- `within::soft_within` has written the cells below cell, each from its own stretch of priors, which stand past them all.
-use Prim.Native.Nat.{◌≤◌, ◌+◌, ◌-◌, ◌*◌}
-use mathlib.Core.Path.{◌≡◌, refl, ◌∙◌}
-use mathlib.Core.List.{◌++◌}
+use Prim.Native.Nat.{◌≤◌, ◌+◌, ◌*◌}
+use mathlib.Core.Path.{refl, ◌∙◌}
 use native.Mathlib.Omega.{arith}
-use borrow.Author.Rules.{rules}
 use lib.ListN.{length, drop}
-use Rattle.seq.specs.Cat.{cat}
 use Rattle.seq.specs.Cat.Laws.{cat-none, cat_end, stretch, lent}
 use Rattle.expect.specs.Expect.{soft_at, soft_cells}
 use Rattle.expect.proofs.Written.{cell_step}

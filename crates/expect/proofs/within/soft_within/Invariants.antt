@@ -1,15 +1,9 @@
-use Prim.Native.Nat.{◌≤◌, ◌+◌, ◌-◌, ◌*◌}
-use mathlib.Core.Path.{◌≡◌, refl, ◌∙◌}
+use Prim.Native.Nat.{◌≤◌, ◌-◌, ◌*◌}
+use mathlib.Core.Path.{◌≡◌}
 use mathlib.Core.List.{◌++◌}
-use native.Mathlib.Omega.{arith}
-use borrow.Author.Rules.{rules}
 use lib.ListN.{length, drop}
 use Rattle.seq.specs.Cat.{cat}
-use Rattle.seq.specs.Cat.Laws.{cat-none, cat_end, stretch, lent}
-use Rattle.expect.specs.Expect.{soft_at, soft_cells}
-use Rattle.expect.proofs.Written.{cell_step}
-use Rattle.expect.proofs.Laws.{length_cell}
-use Rattle.expect.proofs.OneList.{soft_cell_within}
+use Rattle.expect.specs.Expect.{soft_at}
 use Rattle.expect.proofs.within.soft_within.Given as goal
 
 abbrev pub invariant-loop-cell : goal.invariant-loop-cell

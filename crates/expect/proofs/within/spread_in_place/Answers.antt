@@ -1,5 +1,4 @@
 -- `within::spread_in_place` fills the list with the symbol.
-use borrow.Author.Rules.{rules}
 use Rattle.expect.proofs.Front.{row_is}
 use Rattle.expect.proofs.within.spread_in_place.Goals as goal
 

@@ -1,12 +1,9 @@
 -- `within::spread_within` has lent each symbol below t its stretch, and nothing past them.
-use Prim.Native.Nat.{◌≤◌, ◌+◌, ◌-◌, ◌*◌}
+use Prim.Native.Nat.{◌≤◌, ◌+◌, ◌*◌}
 use mathlib.Core.Path.{◌≡◌, ◌∙◌}
-use mathlib.Core.List.{◌++◌}
 use native.Mathlib.Nat.{le_trans, mul-le-mul_right}
 use native.Mathlib.Omega.{arith}
-use borrow.Author.Rules.{rules}
-use lib.ListN.{length, drop}
-use Rattle.seq.specs.Cat.{cat}
+use lib.ListN.{length}
 use Rattle.seq.specs.Cat.Laws.{cat-none, cat_more, cat_end, length_catted, stretch, lent, returned}
 use Rattle.expect.specs.Expect.{spread_row, respread}
 use Rattle.expect.proofs.Laws.{length_row}

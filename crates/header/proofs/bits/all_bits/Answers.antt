@@ -1,10 +1,6 @@
 -- `all_bits` meets its contract: the bytes passed are bits.
-use Prim.Native.Nat.{◌≤◌, ◌-◌}
-use mathlib.Core.Path.{◌≡◌}
 use native.Mathlib.Omega.{arith}
 use borrow.Author.Rules.{rules}
-use lib.ListN.{length, drop}
-use Rattle.header.specs.Bits.{are_bits}
 use Rattle.header.proofs.Digits.{scan_on, scan_stop, scan_end}
 use Rattle.header.proofs.bits.all_bits.Goals as goal
 

@@ -1,10 +1,7 @@
 use Prim.Native.Nat.{◌≤◌, ◌-◌}
 use mathlib.Core.Path.{◌≡◌}
-use native.Mathlib.Omega.{arith}
-use borrow.Author.Rules.{rules}
 use lib.ListN.{length, drop}
 use Rattle.header.specs.Bits.{are_bits}
-use Rattle.header.proofs.Digits.{scan_on, scan_stop, scan_end}
 use Rattle.header.proofs.bits.all_bits.Given as goal
 
 abbrev pub invariant-loop-i : goal.invariant-loop-i

@@ -1,11 +1,7 @@
 -- `push_bits` meets its contract: the highest digits stand in front.
-use Prim.Native.Nat.{◌≤◌, ◌-◌}
-use mathlib.Core.Path.{◌≡◌, refl}
-use mathlib.Core.List.{◌++◌}
+use mathlib.Core.Path.{refl}
 use native.Mathlib.Omega.{arith}
 use borrow.Author.Rules.{rules}
-use lib.ListN.{length, drop}
-use Rattle.seq.specs.Tab.{tab}
 use Rattle.seq.specs.Tab.Laws.{tab_none, tab_step}
 use Rattle.header.proofs.Digits.{digit, push_length, push_end}
 use Rattle.header.proofs.bits.push_bits.Goals as goal

@@ -1,9 +1,7 @@
 -- `read_bits` meets its contract: it holds the number that the bits passed write.
-use Prim.Native.Nat.{◌≤◌, ◌-◌}
-use mathlib.Core.Path.{◌≡◌, refl}
+use mathlib.Core.Path.{refl}
 use native.Mathlib.Omega.{arith}
 use borrow.Author.Rules.{rules}
-use lib.ListN.{length, take}
 use Rattle.header.specs.Bits.{value}
 use Rattle.header.proofs.Digits.{read_more, read_lt, read_end}
 use Rattle.header.proofs.bits.read_bits.Goals as goal

@@ -1,10 +1,7 @@
 use Prim.Native.Nat.{◌≤◌, ◌-◌}
-use mathlib.Core.Path.{◌≡◌, refl}
-use native.Mathlib.Omega.{arith}
-use borrow.Author.Rules.{rules}
+use mathlib.Core.Path.{◌≡◌}
 use lib.ListN.{length, take}
 use Rattle.header.specs.Bits.{value}
-use Rattle.header.proofs.Digits.{read_more, read_lt, read_end}
 use Rattle.header.proofs.bits.read_bits.Given as goal
 
 abbrev pub invariant-loop-i : goal.invariant-loop-i

@@ -1,9 +1,8 @@
 -- `crc16` meets its contract: the loop is the register, which ends with the check bits.
-use Prim.Native.Nat.{◌≤◌, ◌-◌, zero-le}
-use mathlib.Core.Path.{◌≡◌, ◌∙◌}
+use Prim.Native.Nat.{zero-le}
+use mathlib.Core.Path.{◌∙◌}
 use native.Mathlib.Omega.{arith}
 use borrow.Author.Rules.{rules}
-use lib.ListN.{length}
 use Rattle.seq.specs.Loop.Laws.{for_none, for_step, for_end}
 use Rattle.header.specs.Check.{register}
 use Rattle.header.proofs.Register.{registered}

@@ -1,11 +1,7 @@
-use Prim.Native.Nat.{◌≤◌, ◌-◌, zero-le}
-use mathlib.Core.Path.{◌≡◌, ◌∙◌}
-use native.Mathlib.Omega.{arith}
-use borrow.Author.Rules.{rules}
+use Prim.Native.Nat.{◌≤◌, ◌-◌}
+use mathlib.Core.Path.{◌≡◌}
 use lib.ListN.{length}
-use Rattle.seq.specs.Loop.Laws.{for_none, for_step, for_end}
 use Rattle.header.specs.Check.{register}
-use Rattle.header.proofs.Register.{registered}
 use Rattle.header.proofs.check.crc16.Given as goal
 
 abbrev pub invariant-loop-i : goal.invariant-loop-i

@@ -1,5 +1,4 @@
 -- `shift` meets its contract: one step of the register.
-use borrow.Author.Rules.{rules}
 use Rattle.header.proofs.Register.{on, off}
 use Rattle.header.proofs.check.shift.Goals as goal
 

@@ -3,7 +3,6 @@ use mathlib.Core.Path.{refl}
 use native.Mathlib.Omega.{arith}
 use Rattle.header.specs.Fields.{data_info}
 use Rattle.header.proofs.Information.{narrow_fields, mode_le}
-use borrow.Author.Rules.{rules}
 use Rattle.header.proofs.fields.data_info.Goals as goal
 
 pub overflow_mul-top : goal.overflow_mul-top

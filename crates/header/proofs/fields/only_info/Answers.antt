@@ -1,7 +1,6 @@
 -- `only_info` meets its contract.
 use mathlib.Core.Path.{refl}
 use Rattle.header.specs.Fields.{only_info}
-use borrow.Author.Rules.{rules}
 use Rattle.header.proofs.fields.only_info.Goals as goal
 
 pub returns : goal.returns

@@ -1,6 +1,5 @@
 -- `data_mask` meets its contract.
 use mathlib.Core.Path.{refl}
-use borrow.Author.Rules.{rules}
 use Rattle.header.specs.Masks.{data_mask}
 use Rattle.header.proofs.mask.data_mask.Goals as goal
 

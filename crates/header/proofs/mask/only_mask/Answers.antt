@@ -1,6 +1,5 @@
 -- `only_mask` meets its contract.
 use mathlib.Core.Path.{refl}
-use borrow.Author.Rules.{rules}
 use Rattle.header.specs.Masks.{only_mask}
 use Rattle.header.proofs.mask.only_mask.Goals as goal
 

@@ -1,15 +1,8 @@
 -- `parse_bits` meets its contract, a lemma an answer.
-use Prim.Native.Nat.{ℕ, ◌≤◌}
-use mathlib.Core.Path.{◌≡◌, sym, ◌∙◌}
-use mathlib.Core.Bool.{true, false}
-use mathlib.Core.List.{List}
+use mathlib.Core.Path.{sym, ◌∙◌}
 use native.Mathlib.Omega.{arith}
-use lib.Bits.{bit_xor, xor_lt}
+use lib.Bits.{xor_lt}
 use lib.Seq.{length-take-le}
-use borrow.Author.Rules.{rules}
-use borrow.Author.Tests.{not-true, not-false}
-use Rattle.header.specs.Bits.{are_bits}
-use Rattle.header.specs.Frame.{fits}
 use Rattle.header.proofs.Reading.{no_layout, no_bits, no_symbols, some_data, header_only_lem, no_check, does_fit, no_fit}
 use Rattle.header.proofs.parse.parse_bits.Goals as goal
 

@@ -1,11 +1,9 @@
 -- `header_bits` meets its contract: refused, or written.
 use Rattle.header.proofs.Framing.{no_layout, no_fields, wrote_only, wrote_data}
-use borrow.Author.Tests.{not-true, not-false}
 use mathlib.Core.Path.{◌≡◌, sym, ◌∙◌}
 use mathlib.Core.Bool.{true}
 use Rattle.header.specs.Fields.{accepted}
 use native.Mathlib.Omega.{arith}
-use borrow.Author.Rules.{rules}
 use Rattle.header.proofs.write.header_bits.Goals as goal
 use Rattle.header.proofs.write.header_bits.Goals.{Else-not-accepted}
 

@@ -4,7 +4,6 @@ use mathlib.Core.Path.{sym}
 use lib.Seq.{length-take-le}
 use lib.Bits.{xor_lt}
 use native.Mathlib.Omega.{arith}
-use borrow.Author.Rules.{rules}
 use Rattle.header.proofs.write.put_frame.Goals as goal
 
 pub slice_bounds-push_bits-end-2 : goal.slice_bounds-push_bits-end-2

@@ -1,5 +1,4 @@
 -- `ieee::scaled` meets its contract. Assumes nothing.
-use native.Mathlib.Omega.{arith}
 use Rattle.ieee.proofs.Floats.{is_no_nan}
 use Rattle.ieee.proofs.newton.scaled.Goals as goal
 

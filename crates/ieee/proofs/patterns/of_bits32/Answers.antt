@@ -1,5 +1,4 @@
 use mathlib.Core.Path.{sym, ◌∙◌}
-use borrow.Author.Rules.{rules}
 use lib.Ieee.{binary32}
 use Rattle.ieee.proofs.Floats.{quotient_nan, nan_pattern, no_nan_pattern}
 use Rattle.ieee.proofs.patterns.of_bits32.Goals as goal

@@ -1,5 +1,4 @@
 use mathlib.Core.Path.{sym, ap, subst}
-use borrow.Author.Rules.{rules}
 use lib.Dec.{T}
 use lib.Ieee.{to_bits, binary64}
 use lib.Ieee.Compare.{differs_from_itself}

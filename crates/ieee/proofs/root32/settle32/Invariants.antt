@@ -1,8 +1,4 @@
-use Prim.Native.Nat.{ℕ, ◌+◌, ◌-◌, ◌*◌, ◌^◌, ◌≤◌, ◌<◌}
-use native.Mathlib.Nat.{mul-le-mul, lt_of_le_of_lt}
-use native.Mathlib.Omega.{arith}
-use lib.Dec.{lit<}
-use Rattle.ieee.proofs.Root.{small_root1, at_least_one1, again1, near_of1}
+use Prim.Native.Nat.{◌+◌, ◌-◌, ◌*◌, ◌^◌, ◌≤◌}
 use Rattle.ieee.proofs.root32.settle32.Given as goal
 
 abbrev pub invariant-loop-r : goal.invariant-loop-r

@@ -1,6 +1,6 @@
 -- `ieee::settle` meets its contract. Assumes nothing.
 use mathlib.Core.Path.{subst}
-use Prim.Native.Nat.{ℕ, ◌+◌, ◌-◌, ◌*◌, ◌^◌, ◌≤◌, ◌<◌}
+use Prim.Native.Nat.{ℕ, ◌-◌, ◌^◌, ◌≤◌, ◌<◌}
 use native.Mathlib.Omega.{arith}
 use Rattle.ieee.proofs.Root.{small_root, above_test, at_least_one, near_of_lem}
 use Rattle.ieee.proofs.root64.settle.Goals as goal

@@ -1,7 +1,4 @@
-use mathlib.Core.Path.{subst}
-use Prim.Native.Nat.{ℕ, ◌+◌, ◌-◌, ◌*◌, ◌^◌, ◌≤◌, ◌<◌}
-use native.Mathlib.Omega.{arith}
-use Rattle.ieee.proofs.Root.{small_root, above_test, at_least_one, near_of_lem}
+use Prim.Native.Nat.{◌+◌, ◌-◌, ◌*◌, ◌^◌, ◌≤◌}
 use Rattle.ieee.proofs.root64.settle.Given as goal
 
 abbrev pub invariant-loop-r : goal.invariant-loop-r

@@ -1,6 +1,5 @@
 -- `ieee::sqrt64` meets its contract: by what the pattern looks like. Assumes nothing.
 use mathlib.Core.Path.{sym, ◌∙◌, subst}
-use borrow.Author.Rules.{rules}
 use lib.Dec.{T}
 use lib.Ieee.{binary64, fits}
 use Rattle.ieee.proofs.Floats.{is_no_nan, quotient_nan64}

@@ -1,5 +1,4 @@
 -- `estimate_cell` meets its contract: the parts make the estimate by the cell's own expected value. Assumes nothing.
-use borrow.Author.Rules.{rules}
 use Rattle.load.specs.Find.{mean_at}
 use Rattle.judge.specs.Cells.{symbol_of}
 use Rattle.judge.proofs.Estimated.{starts, estimable, estimate_written}

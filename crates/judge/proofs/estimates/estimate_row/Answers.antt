@@ -1,18 +1,11 @@
 -- `estimate_row` meets its contract: before each turn the cells below j hold estimates, and the others what was expected of them. Assumes nothing.
-use Prim.Native.Nat.{◌≤◌, ◌<◌, ◌+◌, ◌-◌, ◌*◌}
-use mathlib.Core.List.{◌++◌}
-use mathlib.Core.Path.{◌≡◌, refl, ◌∙◌}
+use Prim.Native.Nat.{◌*◌}
+use mathlib.Core.Path.{refl, ◌∙◌}
 use native.Mathlib.Omega.{arith}
-use lib.ListN.{length, drop}
 use Rattle.seq.specs.Loop.Laws.{turn_more, turn_less}
 use Rattle.seq.specs.Cat.Laws.{cat-none, lent}
-use Rattle.seq.specs.Cat.{cat}
-use Rattle.load.specs.Fit.{ncell}
-use Rattle.load.specs.Pilots.{pilots}
-use Rattle.load.specs.Find.{mean_at}
-use Rattle.judge.specs.Cells.{estimate_for, numbers_of}
 use Rattle.judge.proofs.Rows.{row_inside, next_fits, row_step, row_end, mean_lent}
-use Rattle.judge.proofs.Placed.{Lent, cell_lent, few_carriers, row_cell, few_cells}
+use Rattle.judge.proofs.Placed.{cell_lent, few_carriers, row_cell, few_cells}
 use Rattle.judge.proofs.estimates.estimate_row.Goals as goal
 
 pub loop-j-init : goal.loop-j-init

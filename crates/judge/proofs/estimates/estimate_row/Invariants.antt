@@ -1,17 +1,11 @@
-use Prim.Native.Nat.{◌≤◌, ◌<◌, ◌+◌, ◌-◌, ◌*◌}
+use Prim.Native.Nat.{◌≤◌, ◌+◌, ◌-◌, ◌*◌}
 use mathlib.Core.List.{◌++◌}
-use mathlib.Core.Path.{◌≡◌, refl, ◌∙◌}
-use native.Mathlib.Omega.{arith}
+use mathlib.Core.Path.{◌≡◌}
 use lib.ListN.{length, drop}
-use Rattle.seq.specs.Loop.Laws.{turn_more, turn_less}
-use Rattle.seq.specs.Cat.Laws.{cat-none, lent}
 use Rattle.seq.specs.Cat.{cat}
-use Rattle.load.specs.Fit.{ncell}
 use Rattle.load.specs.Pilots.{pilots}
 use Rattle.load.specs.Find.{mean_at}
 use Rattle.judge.specs.Cells.{estimate_for, numbers_of}
-use Rattle.judge.proofs.Rows.{row_inside, next_fits, row_step, row_end, mean_lent}
-use Rattle.judge.proofs.Placed.{Lent, cell_lent, few_carriers, row_cell, few_cells}
 use Rattle.judge.proofs.estimates.estimate_row.Given as goal
 
 abbrev pub invariant-loop-j : goal.invariant-loop-j

@@ -1,6 +1,5 @@
 -- `own_index` meets its contract: it goes by the test of the definition. Assumes nothing.
 use mathlib.Core.Path.{sym, ◌∙◌}
-use borrow.Author.Rules.{rules}
 use Rattle.judge.proofs.estimates.own_index.Goals as goal
 
 pub returns-then-loud : goal.returns-then-loud

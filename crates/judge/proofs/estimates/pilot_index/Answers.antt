@@ -1,13 +1,10 @@
 -- `pilot_index` meets its contract: what is left to search from i finds what the whole search finds. Assumes nothing.
-use Prim.Native.Nat.{◌≤◌, ◌+◌, ◌-◌}
-use mathlib.Core.Path.{◌≡◌, refl, sym, ◌∙◌}
+use Prim.Native.Nat.{◌+◌}
+use mathlib.Core.Path.{refl, sym, ◌∙◌}
 use native.Mathlib.Omega.{arith}
 use lib.Dec.{eqb}
 use lib.ListN.{get_or}
 use borrow.Author.Tests.{eq-eqb, ne_eqb}
-use borrow.Author.Rules.{rules}
-use Rattle.load.specs.Load.{find_in}
-use Rattle.judge.specs.Cells.{index_in}
 use Rattle.judge.proofs.Finding.{find_here, find_on, find_none}
 use Rattle.judge.proofs.estimates.pilot_index.Goals as goal
 

@@ -1,13 +1,9 @@
-use Prim.Native.Nat.{◌≤◌, ◌+◌, ◌-◌}
-use mathlib.Core.Path.{◌≡◌, refl, sym, ◌∙◌}
-use native.Mathlib.Omega.{arith}
+use Prim.Native.Nat.{◌≤◌, ◌-◌}
+use mathlib.Core.Path.{◌≡◌}
 use lib.Dec.{eqb}
 use lib.ListN.{get_or}
-use borrow.Author.Tests.{eq-eqb, ne_eqb}
-use borrow.Author.Rules.{rules}
 use Rattle.load.specs.Load.{find_in}
 use Rattle.judge.specs.Cells.{index_in}
-use Rattle.judge.proofs.Finding.{find_here, find_on, find_none}
 use Rattle.judge.proofs.estimates.pilot_index.Given as goal
 
 abbrev pub invariant-loop-i : goal.invariant-loop-i

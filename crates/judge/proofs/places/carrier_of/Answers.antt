@@ -1,6 +1,5 @@
 -- `carrier_of` meets its contract: the symbol has as many data carriers as the source says. Assumes nothing.
 use native.Mathlib.Omega.{arith}
-use borrow.Author.Rules.{rules}
 use Rattle.judge.specs.Cells.{symbol_of}
 use Rattle.judge.proofs.Placed.{placed}
 use Rattle.judge.proofs.places.carrier_of.Goals as goal

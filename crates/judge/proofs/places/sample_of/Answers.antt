@@ -1,6 +1,5 @@
 -- `sample_of` meets its contract: the cell lies in the grid. Assumes nothing.
 use native.Mathlib.Omega.{arith}
-use borrow.Author.Rules.{rules}
 use Rattle.judge.proofs.Placed.{placed, few_places}
 use Rattle.judge.proofs.places.sample_of.Goals as goal
 

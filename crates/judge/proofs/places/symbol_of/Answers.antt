@@ -1,6 +1,5 @@
 -- `symbol_of` meets its contract: the symbol is one of the grid. Assumes nothing.
 use native.Mathlib.Omega.{arith}
-use borrow.Author.Rules.{rules}
 use Rattle.judge.proofs.Placed.{placed}
 use Rattle.judge.proofs.places.symbol_of.Goals as goal
 

@@ -1,5 +1,4 @@
 -- `estimate_in` meets its contract. Assumes nothing.
-use borrow.Author.Rules.{rules}
 use Rattle.judge.proofs.plain.estimate_in.Goals as goal
 
 pub returns : goal.returns

@@ -1,11 +1,9 @@
 -- `channels` meets its contract: before each turn the estimates below j are written. Assumes nothing.
-use Prim.Native.Nat.{◌≤◌, ◌+◌, ◌-◌, ◌*◌}
-use mathlib.Core.List.{◌++◌}
-use mathlib.Core.Path.{◌≡◌, refl}
+use Prim.Native.Nat.{◌≤◌, ◌+◌, ◌*◌}
+use mathlib.Core.Path.{refl}
 use native.Mathlib.Omega.{arith}
-use lib.ListN.{length-set, length, drop}
-use borrow.Author.Rules.{rules}
-use Rattle.spread.proofs.Pairs.{pairs, pairs_none, pairs_step, pairs_end}
+use lib.ListN.{length-set, length}
+use Rattle.spread.proofs.Pairs.{pairs_none, pairs_step, pairs_end}
 use Rattle.load.specs.Find.{mean_at}
 use Rattle.judge.specs.Judge.{ha}
 use Rattle.judge.proofs.spreading.channels.Goals as goal

@@ -1,12 +1,9 @@
-use Prim.Native.Nat.{◌≤◌, ◌+◌, ◌-◌, ◌*◌}
+use Prim.Native.Nat.{◌≤◌, ◌-◌, ◌*◌}
 use mathlib.Core.List.{◌++◌}
-use mathlib.Core.Path.{◌≡◌, refl}
-use native.Mathlib.Omega.{arith}
-use lib.ListN.{length-set, length, drop}
-use borrow.Author.Rules.{rules}
-use Rattle.spread.proofs.Pairs.{pairs, pairs_none, pairs_step, pairs_end}
+use mathlib.Core.Path.{◌≡◌}
+use lib.ListN.{length, drop}
+use Rattle.spread.proofs.Pairs.{pairs}
 use Rattle.load.specs.Find.{mean_at}
-use Rattle.judge.specs.Judge.{ha}
 use Rattle.judge.proofs.spreading.channels.Given as goal
 
 abbrev pub invariant-loop-j : goal.invariant-loop-j

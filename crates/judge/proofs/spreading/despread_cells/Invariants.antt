@@ -1,16 +1,9 @@
-use Prim.Native.Nat.{ℕ, ◌≤◌, ◌+◌, ◌-◌, ◌*◌}
-use mathlib.Core.List.{List, ◌++◌}
-use mathlib.Core.Path.{◌≡◌, refl, ◌∙◌}
-use native.Mathlib.Omega.{arith}
-use lib.Ieee.{Float}
+use Prim.Native.Nat.{◌≤◌, ◌-◌, ◌*◌}
+use mathlib.Core.List.{◌++◌}
+use mathlib.Core.Path.{◌≡◌}
 use lib.ListN.{length, drop}
-use Rattle.seq.specs.Loop.Laws.{turn_more, turn_less}
-use Rattle.seq.specs.Cat.Laws.{cat-none, lent}
 use Rattle.seq.specs.Cat.{cat}
 use Rattle.judge.specs.Judge.{answer_of, despread}
-use Rattle.judge.proofs.Rows.{row_inside, lent_long, next_fits, two_within, row_step, row_end}
-use Rattle.judge.proofs.Placed.{Lent, cell_lent}
-use Rattle.judge.proofs.Laws.{length_despread, despread_by}
 use Rattle.judge.proofs.spreading.despread_cells.Given as goal
 
 abbrev pub invariant-loop-j : goal.invariant-loop-j

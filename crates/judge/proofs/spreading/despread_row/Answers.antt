@@ -1,7 +1,6 @@
 -- `despread_row` meets its contract: the symbols stand at the front of z. Assumes nothing.
 use mathlib.Core.Path.{◌∙◌}
 use native.Mathlib.Omega.{arith}
-use borrow.Author.Rules.{rules}
 use Rattle.judge.specs.Cells.{estimate_in}
 use Rattle.judge.proofs.Equalizing.{length_equalized, despread_front}
 use Rattle.judge.proofs.Placed.{few_carriers}

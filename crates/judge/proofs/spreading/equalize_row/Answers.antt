@@ -1,6 +1,5 @@
 -- `equalize_row` meets its contract: what it hands over begins with what is to be equalised. Assumes nothing.
 use native.Mathlib.Omega.{arith}
-use borrow.Author.Rules.{rules}
 use Rattle.judge.specs.Cells.{estimate_in}
 use Rattle.judge.proofs.Equalizing.{equalized_by}
 use Rattle.judge.proofs.Placed.{few_carriers, row_all}

@@ -1,13 +1,9 @@
 -- `samples` meets its contract: before each turn the samples of the cells below j are written. Assumes nothing.
-use Prim.Native.Nat.{ℕ, ◌≤◌, ◌<◌, ◌+◌, ◌-◌, ◌*◌}
-use mathlib.Core.List.{◌++◌}
-use mathlib.Core.Path.{◌≡◌, refl}
+use Prim.Native.Nat.{ℕ, ◌≤◌, ◌+◌, ◌*◌}
+use mathlib.Core.Path.{refl}
 use native.Mathlib.Omega.{arith}
-use lib.ListN.{length-set, length, drop}
-use borrow.Author.Rules.{rules}
-use Rattle.dsp.specs.declared.Complex.{Complex}
-use Rattle.spread.proofs.Pairs.{pairs, pairs_none, pairs_step, pairs_end}
-use Rattle.load.specs.Fit.{ncell}
+use lib.ListN.{length-set, length}
+use Rattle.spread.proofs.Pairs.{pairs_none, pairs_step, pairs_end}
 use Rattle.judge.specs.Judge.{ya}
 use Rattle.judge.specs.Cells.{sample_of}
 use Rattle.judge.proofs.Placed.{row_cell, few_cells}

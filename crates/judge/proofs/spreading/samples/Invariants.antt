@@ -1,15 +1,9 @@
-use Prim.Native.Nat.{ℕ, ◌≤◌, ◌<◌, ◌+◌, ◌-◌, ◌*◌}
+use Prim.Native.Nat.{◌≤◌, ◌+◌, ◌-◌, ◌*◌}
 use mathlib.Core.List.{◌++◌}
-use mathlib.Core.Path.{◌≡◌, refl}
-use native.Mathlib.Omega.{arith}
-use lib.ListN.{length-set, length, drop}
-use borrow.Author.Rules.{rules}
-use Rattle.dsp.specs.declared.Complex.{Complex}
-use Rattle.spread.proofs.Pairs.{pairs, pairs_none, pairs_step, pairs_end}
-use Rattle.load.specs.Fit.{ncell}
-use Rattle.judge.specs.Judge.{ya}
+use mathlib.Core.Path.{◌≡◌}
+use lib.ListN.{length, drop}
+use Rattle.spread.proofs.Pairs.{pairs}
 use Rattle.judge.specs.Cells.{sample_of}
-use Rattle.judge.proofs.Placed.{row_cell, few_cells}
 use Rattle.judge.proofs.spreading.samples.Given as goal
 
 abbrev pub invariant-loop-j : goal.invariant-loop-j

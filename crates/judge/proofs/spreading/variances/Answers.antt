@@ -1,13 +1,10 @@
 -- `variances` meets its contract: before each turn the variances of the cells below j are written. Assumes nothing.
-use Prim.Native.Nat.{◌≤◌, ◌+◌, ◌-◌, ◌*◌}
-use mathlib.Core.List.{◌++◌}
-use mathlib.Core.Path.{◌≡◌, refl}
+use Prim.Native.Nat.{◌+◌, ◌*◌}
+use mathlib.Core.Path.{refl}
 use native.Mathlib.Omega.{arith}
 use lib.Ieee.{nan}
-use lib.ListN.{drop, get_or}
-use borrow.Author.Rules.{rules}
+use lib.ListN.{get_or}
 use Rattle.seq.specs.Tab.Laws.{tab_none, tab_step, tab_end, length_tabbed}
-use Rattle.seq.specs.Tab.{tab}
 use Rattle.ieee.specs.Num.{◌⊞◌, ◌⊠◌}
 use Rattle.judge.specs.Judge.{va}
 use Rattle.judge.proofs.spreading.variances.Goals as goal

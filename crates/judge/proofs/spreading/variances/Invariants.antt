@@ -1,14 +1,10 @@
 use Prim.Native.Nat.{◌≤◌, ◌+◌, ◌-◌, ◌*◌}
 use mathlib.Core.List.{◌++◌}
-use mathlib.Core.Path.{◌≡◌, refl}
-use native.Mathlib.Omega.{arith}
+use mathlib.Core.Path.{◌≡◌}
 use lib.Ieee.{nan}
 use lib.ListN.{drop, get_or}
-use borrow.Author.Rules.{rules}
-use Rattle.seq.specs.Tab.Laws.{tab_none, tab_step, tab_end, length_tabbed}
 use Rattle.seq.specs.Tab.{tab}
 use Rattle.ieee.specs.Num.{◌⊞◌, ◌⊠◌}
-use Rattle.judge.specs.Judge.{va}
 use Rattle.judge.proofs.spreading.variances.Given as goal
 
 abbrev pub invariant-loop-j : goal.invariant-loop-j

@@ -1,10 +1,6 @@
 -- `below` meets its contract. Assumes nothing.
-use Prim.Native.Nat.{ℕ, ◌≤◌, ◌-◌}
-use mathlib.Core.Path.{◌≡◌}
 use native.Mathlib.Omega.{arith}
 use borrow.Author.Rules.{rules}
-use lib.ListN.{get_or}
-use Rattle.seq.specs.Loop.{for}
 use Rattle.seq.specs.Loop.Laws.{for_none, for_step, for_end}
 use Rattle.listed.specs.Order.{tally, below}
 use Rattle.listed.proofs.order.below.Goals as goal

@@ -1,11 +1,8 @@
 use Prim.Native.Nat.{ℕ, ◌≤◌, ◌-◌}
 use mathlib.Core.Path.{◌≡◌}
-use native.Mathlib.Omega.{arith}
-use borrow.Author.Rules.{rules}
 use lib.ListN.{get_or}
 use Rattle.seq.specs.Loop.{for}
-use Rattle.seq.specs.Loop.Laws.{for_none, for_step, for_end}
-use Rattle.listed.specs.Order.{tally, below}
+use Rattle.listed.specs.Order.{tally}
 use Rattle.listed.proofs.order.below.Given as goal
 
 abbrev pub invariant-loop-i : goal.invariant-loop-i

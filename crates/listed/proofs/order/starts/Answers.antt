@@ -1,13 +1,8 @@
 -- `starts` meets its contract. Assumes nothing.
-use Prim.Native.Nat.{ℕ, ◌≤◌, ◌-◌}
-use mathlib.Core.Path.{◌≡◌}
-use mathlib.Core.List.{◌++◌}
 use native.Mathlib.Omega.{arith}
 use borrow.Author.Rules.{rules}
-use lib.ListN.{length, get_or, drop, length-set}
-use Rattle.seq.specs.Tab.{tab}
+use lib.ListN.{length-set}
 use Rattle.seq.specs.Tab.Laws.{tab_none, tab_step, tab_end}
-use Rattle.listed.specs.Order.{below}
 use Rattle.listed.proofs.order.starts.Goals as goal
 
 pub loop-g-init : goal.loop-g-init

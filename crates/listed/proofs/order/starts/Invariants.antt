@@ -1,11 +1,8 @@
 use Prim.Native.Nat.{ℕ, ◌≤◌, ◌-◌}
 use mathlib.Core.Path.{◌≡◌}
 use mathlib.Core.List.{◌++◌}
-use native.Mathlib.Omega.{arith}
-use borrow.Author.Rules.{rules}
-use lib.ListN.{length, get_or, drop, length-set}
+use lib.ListN.{length, get_or, drop}
 use Rattle.seq.specs.Tab.{tab}
-use Rattle.seq.specs.Tab.Laws.{tab_none, tab_step, tab_end}
 use Rattle.listed.specs.Order.{below}
 use Rattle.listed.proofs.order.starts.Given as goal
 

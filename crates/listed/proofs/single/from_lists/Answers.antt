@@ -1,7 +1,6 @@
 -- `from_lists` meets its contract.
 use mathlib.Core.Path.{sym}
 use native.Mathlib.Omega.{arith}
-use borrow.Author.Rules.{rules}
 use lib.Seq.{length-take-le}
 use Rattle.listed.proofs.Starts.{long_c, long_g, long_f, few, of_records, loaded_in}
 use Rattle.listed.proofs.single.from_lists.Goals as goal

@@ -1,7 +1,6 @@
 -- `with_starts` meets its contract.
 use mathlib.Core.Path.{sym}
 use native.Mathlib.Omega.{arith}
-use borrow.Author.Rules.{rules}
 use lib.Seq.{length-take-le}
 use Rattle.listed.proofs.single.with_starts.Goals as goal
 

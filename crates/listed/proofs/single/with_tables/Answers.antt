@@ -1,6 +1,5 @@
 -- `with_tables` meets its contract.
 use mathlib.Core.Path.{◌∙◌}
-use borrow.Author.Rules.{rules}
 use Rattle.listed.proofs.Asking.{estimable, estimated}
 use Rattle.listed.proofs.single.with_tables.Goals as goal
 

@@ -1,10 +1,7 @@
 -- `found_at` meets its contract: a known value, a header's data cell, or a data cell by its number. Assumes nothing.
-use Prim.Native.Nat.{◌≤◌, ◌<◌}
-use mathlib.Core.Path.{◌≡◌, sym, ◌∙◌}
-use mathlib.Core.Bool.{false}
+use Prim.Native.Nat.{◌<◌}
+use mathlib.Core.Path.{sym, ◌∙◌}
 use native.Mathlib.Omega.{arith}
-use borrow.Author.Rules.{rules}
-use Rattle.layout.specs.Maps.{is_pilot}
 use Rattle.layout.specs.Carriers.{cell_index}
 use Rattle.load.specs.Find.{cell_of}
 use Rattle.load.specs.Fit.{ncell}

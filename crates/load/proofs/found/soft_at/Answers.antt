@@ -1,5 +1,4 @@
 -- `soft_at` meets its contract. Assumes nothing.
-use borrow.Author.Rules.{rules}
 use Rattle.load.specs.Find.{soft_cell}
 use Rattle.load.proofs.found.soft_at.Goals as goal
 

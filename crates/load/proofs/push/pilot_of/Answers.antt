@@ -1,5 +1,4 @@
 -- `pilot_of` meets its contract. Assumes nothing.
-use borrow.Author.Rules.{rules}
 use Rattle.load.specs.Load.{pilot_of}
 use Rattle.load.proofs.push.pilot_of.Goals as goal
 

@@ -2,7 +2,6 @@
 use mathlib.Core.Path.{refl}
 use native.Mathlib.Omega.{arith}
 use lib.ListN.{length-set}
-use borrow.Author.Rules.{rules}
 use Rattle.load.specs.Work.{stored_w, stored_pf}
 use Rattle.load.proofs.push.put.Goals as goal
 

@@ -1,17 +1,12 @@
 -- `load` meets its contract: before each turn the lists hold the pilots of the symbols visited. Assumes nothing.
-use Prim.Native.Nat.{◌≤◌, ◌+◌, ◌-◌, ◌*◌}
 use mathlib.Core.Path.{◌≡◌, refl, ◌∙◌}
 use native.Mathlib.Nat.{le_refl, le_antisymm}
-use native.Mathlib.Omega.{arith}
 use Prim.Native.Nat.{zero-le}
-use lib.ListN.{length, length-set}
+use lib.ListN.{length-set}
 use Rattle.seq.specs.Loop.Laws.{turn_more, turn_less}
-use Rattle.load.specs.Find.{found_at}
-use Rattle.load.specs.Fit.{Room, places}
-use Rattle.load.specs.Work.{Upto}
 use Rattle.load.proofs.Storing.{all_loaded}
 use Rattle.load.proofs.Turns.{room_kept, rows_begin}
-use Rattle.load.proofs.Marks.{Marks, marks, first_within, mark_within, turn_fits}
+use Rattle.load.proofs.Marks.{marks, first_within, mark_within}
 use Rattle.load.proofs.rows.load.Goals as goal
 
 pub overflow_mul-at : goal.overflow_mul-at

@@ -1,14 +1,13 @@
 -- `row` meets its contract: before each turn the lists hold the pilots of the carriers visited. Assumes nothing.
-use Prim.Native.Nat.{◌≤◌, ◌<◌, ◌+◌, ◌-◌, ◌*◌}
+use Prim.Native.Nat.{◌≤◌, ◌+◌, ◌*◌}
 use mathlib.Core.Path.{◌≡◌, refl, ◌∙◌}
 use native.Mathlib.Nat.{le_of_lt, le_antisymm}
-use native.Mathlib.Omega.{arith}
-use lib.ListN.{length, length-set}
+use lib.ListN.{length}
 use Rattle.seq.specs.Loop.Laws.{turn_less}
 use Rattle.load.specs.Find.{found_at}
 use Rattle.load.specs.Fit.{places}
 use Rattle.load.proofs.Turns.{InRow, places_small, row_begins, row_room, row_turns, np_within, row_ends}
-use Rattle.load.proofs.Marks.{Marks, marks, mark_within, next_within, count_fits, turn_fits, turn_word, few, place_within, row_fits, place_fits, sample_within, both_long}
+use Rattle.load.proofs.Marks.{marks, mark_within, next_within, count_fits, turn_word, few, place_within, row_fits, place_fits, sample_within, both_long}
 use Rattle.load.proofs.rows.row.Goals as goal
 
 pub overflow_mul-n : goal.overflow_mul-n
@@ -43,25 +42,23 @@ pub sample-requires : goal.sample-requires
 sample-requires c = sample_within ((place_within c.args.g c.args.s.ng c.loop-c.c c.args.s.map.nc c.requires.2 (c.loop-c-test.true))) c.requires.1.long_grid
 
 pub push-np-requires : goal.push-np-requires
-push-np-requires c =
-    (
-      turn_word (c.loop-c-test.true) (few c.requires.0.map.few),
-      turn_word c.requires.2 c.requires.0.symbols,
-      row_room c.args.s c.args.grid.now _ c.args.g c.requires.2 (c.loop-c-test.true) c.loop-c.invariant.2,
-      rw c.loop-c.invariant.0 (both_long c.args.s c.requires.1.long_w),
-      rw c.loop-c.invariant.1 c.requires.1.long_pf,
-    )
+push-np-requires c = (
+  turn_word (c.loop-c-test.true) (few c.requires.0.map.few),
+  turn_word c.requires.2 c.requires.0.symbols,
+  row_room c.args.s c.args.grid.now _ c.args.g c.requires.2 (c.loop-c-test.true) c.loop-c.invariant.2,
+  rw c.loop-c.invariant.0 (both_long c.args.s c.requires.1.long_w),
+  rw c.loop-c.invariant.1 c.requires.1.long_pf,
+)
 
 pub loop-c-smaller : goal.loop-c-smaller
 loop-c-smaller c = turn_less (c.loop-c-test.true)
 
 pub loop-c-preserved : goal.loop-c-preserved
-loop-c-preserved c =
-    (
-      c.push-np.auto.w ∙ c.loop-c.invariant.0,
-      c.push-np.auto.pf ∙ c.loop-c.invariant.1,
-      row_turns c.args.s c.args.grid.now _ c.args.g (c.loop-c-test.true) c.loop-c.invariant.2 (rw (c.found_at-f.ensures, c.sample.ensures) at c.push-np.ensures),
-    )
+loop-c-preserved c = (
+  c.push-np.auto.w ∙ c.loop-c.invariant.0,
+  c.push-np.auto.pf ∙ c.loop-c.invariant.1,
+  row_turns c.args.s c.args.grid.now _ c.args.g (c.loop-c-test.true) c.loop-c.invariant.2 (rw (c.found_at-f.ensures, c.sample.ensures) at c.push-np.ensures),
+)
 
 pub overflow_cast-w : goal.overflow_cast-w
 overflow_cast-w c = count_fits (np_within c.args.s c.args.grid.now _ c.args.g c.loop-c.np c.loop-c.w c.loop-c.pf c.requires.2 (let h : 2 * places c.args.s + c.args.s.ng + 1 ≤ length c.loop-c.w = rw c.loop-c.invariant.0 c.requires.1.long_w in h) ((let h : InRow c.args.s c.args.grid.now (found_at c.args.s c.args.sigma.now c.args.cells.now c.args.expected.now) c.args.g c.args.s.map.nc c.loop-c.w c.loop-c.pf c.loop-c.np = let e : c.loop-c.c ≡ c.args.s.map.nc = le_antisymm c.loop-c.invariant.2.within c.loop-c-test.false in rw e at c.loop-c.invariant.2 in h))) (places_small c.args.s c.requires.0.symbols c.requires.0.map.few)

@@ -1,17 +1,15 @@
 -- `load_within` meets its contract: before each turn the lists hold the pilots of the symbols visited. Assumes nothing.
-use Prim.Native.Nat.{◌≤◌, ◌+◌, ◌-◌, ◌*◌}
+use Prim.Native.Nat.{◌*◌}
 use mathlib.Core.Path.{◌≡◌, refl, ◌∙◌}
 use native.Mathlib.Nat.{le_refl, le_antisymm}
-use native.Mathlib.Omega.{arith}
 use Prim.Native.Nat.{zero-le}
-use lib.ListN.{length, take, drop, length-set}
+use lib.ListN.{length, take, length-set}
 use Rattle.seq.specs.Loop.Laws.{turn_more, turn_less}
 use Rattle.load.specs.Fit.{places}
-use Rattle.load.specs.Work.{Upto}
-use Rattle.load.specs.OneList.{value_in, FitWithin}
+use Rattle.load.specs.OneList.{FitWithin}
 use Rattle.load.proofs.Storing.{all_loaded}
 use Rattle.load.proofs.Turns.{rows_begin}
-use Rattle.load.proofs.Marks.{Marks, marks, first_within, mark_within, turn_fits}
+use Rattle.load.proofs.Marks.{marks, first_within, mark_within}
 use Rattle.load.proofs.OneList.{fit_kept}
 use Rattle.load.proofs.within.load_within.Goals as goal
 

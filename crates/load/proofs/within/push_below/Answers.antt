@@ -1,7 +1,6 @@
 -- `push_below` meets its contract.
 use mathlib.Core.Path.{sym, ◌∙◌}
 use native.Mathlib.Omega.{arith}
-use borrow.Author.Rules.{rules}
 use lib.Seq.{length-take-le}
 use Rattle.load.proofs.OneList.{pushed_below}
 use Rattle.load.proofs.within.push_below.Goals as goal

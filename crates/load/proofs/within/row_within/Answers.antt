@@ -1,15 +1,14 @@
 -- `row_within` meets its contract: before each turn the lists hold the pilots of the carriers visited. Assumes nothing.
-use Prim.Native.Nat.{◌≤◌, ◌<◌, ◌+◌, ◌-◌, ◌*◌}
+use Prim.Native.Nat.{◌≤◌, ◌+◌, ◌*◌}
 use mathlib.Core.Path.{◌≡◌, refl, ◌∙◌}
 use native.Mathlib.Nat.{le_of_lt, le_antisymm, le_trans}
-use native.Mathlib.Omega.{arith}
-use lib.ListN.{length, length-set, take, drop}
+use lib.ListN.{length, take}
 use lib.Seq.{length-take-le}
 use Rattle.seq.specs.Loop.Laws.{turn_less}
 use Rattle.load.specs.Fit.{places}
 use Rattle.load.specs.OneList.{value_in}
 use Rattle.load.proofs.Turns.{InRow, places_small, row_begins, row_room, row_turns, np_within, row_ends}
-use Rattle.load.proofs.Marks.{Marks, marks, mark_within, next_within, count_fits, turn_fits, turn_word, few, place_within, row_fits, place_fits, sample_within, both_long}
+use Rattle.load.proofs.Marks.{marks, mark_within, next_within, count_fits, turn_word, few, place_within, row_fits, place_fits, sample_within, both_long}
 use Rattle.load.proofs.within.row_within.Goals as goal
 
 pub overflow_mul-n : goal.overflow_mul-n
@@ -68,13 +67,12 @@ pub loop-c-smaller : goal.loop-c-smaller
 loop-c-smaller c = turn_less (c.loop-c-test.true)
 
 pub loop-c-preserved : goal.loop-c-preserved
-loop-c-preserved c =
-    (
-      c.push_below-np.auto.w ∙ c.loop-c.invariant.0,
-      c.push_below-np.auto.wf ∙ c.loop-c.invariant.1,
-      c.push_below-np.ensures.1 ∙ c.loop-c.invariant.2,
-      row_turns c.args.s c.args.grid.now _ c.args.g (c.loop-c-test.true) c.loop-c.invariant.3 (rw (c.found_at-f.ensures, c.sample.ensures, c.loop-c.invariant.2) at c.push_below-np.ensures.0),
-    )
+loop-c-preserved c = (
+  c.push_below-np.auto.w ∙ c.loop-c.invariant.0,
+  c.push_below-np.auto.wf ∙ c.loop-c.invariant.1,
+  c.push_below-np.ensures.1 ∙ c.loop-c.invariant.2,
+  row_turns c.args.s c.args.grid.now _ c.args.g (c.loop-c-test.true) c.loop-c.invariant.3 (rw (c.found_at-f.ensures, c.sample.ensures, c.loop-c.invariant.2) at c.push_below-np.ensures.0),
+)
 
 pub overflow_cast-w : goal.overflow_cast-w
 overflow_cast-w c = count_fits (np_within c.args.s c.args.grid.now _ c.args.g c.loop-c.np c.loop-c.w (take c.args.a c.loop-c.wf) c.requires.1 (let h : 2 * places c.args.s + c.args.s.ng + 1 ≤ length c.loop-c.w = rw c.loop-c.invariant.0 c.requires.0.room.long_w in h) ((let h : InRow c.args.s c.args.grid.now (value_in c.args.s c.args.sigma.now c.args.cells.now c.args.a c.args.b c.args.wf.now) c.args.g c.args.s.map.nc c.loop-c.w (take c.args.a c.loop-c.wf) c.loop-c.np = let e : c.loop-c.c ≡ c.args.s.map.nc = le_antisymm c.loop-c.invariant.3.within c.loop-c-test.false in rw e at c.loop-c.invariant.3 in h))) (places_small c.args.s c.requires.0.source.symbols c.requires.0.source.map.few)

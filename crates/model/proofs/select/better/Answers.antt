@@ -1,6 +1,5 @@
 -- `better` meets its contract.
 use Rattle.model.specs.Select.{better}
-use Rattle.std.proofs.Common.{rules}
 use Rattle.model.proofs.select.better.Goals as goal
 
 pub returns-then-t-b : goal.returns-then-t-b

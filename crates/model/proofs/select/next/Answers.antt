@@ -1,7 +1,6 @@
 -- `next` meets its contract.
 use Rattle.model.specs.Values.{FitModels}
 use Rattle.model.specs.Select.{tried, next}
-use Rattle.std.proofs.Common.{rules}
 use Rattle.model.proofs.select.next.Goals as goal
 
 pub score-requires : goal.score-requires

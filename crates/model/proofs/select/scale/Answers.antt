@@ -1,6 +1,5 @@
 -- `scale` meets its contract.
 use Rattle.model.specs.Select.{scale_of}
-use Rattle.std.proofs.Common.{rules}
 use Rattle.model.proofs.select.scale.Goals as goal
 
 pub returns : goal.returns

@@ -1,9 +1,7 @@
 -- `select_model` meets its contract: each turn tries one model.
-use Rattle.std.proofs.Common.{◌≡◌, ◌-◌, ◌≤◌, length, ap, arith, rules}
-use Rattle.seq.specs.Loop.{for}
+use Rattle.std.proofs.Common.{ap, arith}
 use Rattle.seq.specs.Loop.Laws.{for_none, for_step, for_end}
-use Rattle.load.specs.Pilots.{pilots}
-use Rattle.model.specs.Select.{none, next, select_model}
+use Rattle.model.specs.Select.{select_model}
 use Rattle.model.proofs.select.select_model.Goals as goal
 
 pub loop-t-init : goal.loop-t-init

@@ -1,8 +1,7 @@
-use Rattle.std.proofs.Common.{◌≡◌, ◌-◌, ◌≤◌, length, ap, arith, rules}
+use Rattle.std.proofs.Common.{◌≡◌, ◌-◌, ◌≤◌, length}
 use Rattle.seq.specs.Loop.{for}
-use Rattle.seq.specs.Loop.Laws.{for_none, for_step, for_end}
 use Rattle.load.specs.Pilots.{pilots}
-use Rattle.model.specs.Select.{none, next, select_model}
+use Rattle.model.specs.Select.{none, next}
 use Rattle.model.proofs.select.select_model.Given as goal
 
 abbrev pub invariant-loop-t : goal.invariant-loop-t

@@ -1,6 +1,5 @@
 -- `add` meets its contract.
 use Rattle.model.specs.Score.{added}
-use Rattle.std.proofs.Common.{rules}
 use Rattle.model.proofs.trial.add.Goals as goal
 
 pub returns : goal.returns

@@ -1,6 +1,5 @@
 -- `add_pilot` meets its contract.
 use Rattle.model.proofs.Trials.{may_ask, pilot_added}
-use Rattle.std.proofs.Common.{rules}
 use Rattle.model.proofs.trial.add_pilot.Goals as goal
 
 pub estimate_excl-e-requires : goal.estimate_excl-e-requires

@@ -1,5 +1,4 @@
 -- `pilot` meets its contract.
-use Rattle.std.proofs.Common.{rules}
 use Rattle.model.proofs.trial.pilot.Goals as goal
 
 pub returns : goal.returns

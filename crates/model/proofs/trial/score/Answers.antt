@@ -1,7 +1,6 @@
 -- `score` meets its contract.
 use Rattle.model.specs.Score.{tried_of}
 use Rattle.model.proofs.Trials.{may_score}
-use Rattle.std.proofs.Common.{rules}
 use Rattle.model.proofs.trial.score.Goals as goal
 
 pub with_model-requires : goal.with_model-requires

@@ -1,12 +1,8 @@
 -- `sum_pilots` meets its contract: each turn adds a pilot.
 use Rattle.model.proofs.Strides.{turn_within}
 use Rattle.model.proofs.Trials.{turned, summed_up}
-use Rattle.std.proofs.Common.{◌≡◌, ◌-◌, ◌≤◌, length, arith, rules}
-use Rattle.seq.specs.Loop.{for}
+use Rattle.std.proofs.Common.{arith}
 use Rattle.seq.specs.Loop.Laws.{for_none, for_step}
-use Rattle.ieee.specs.Num.{zero64}
-use Rattle.load.specs.Pilots.{pilots}
-use Rattle.model.specs.Score.{stride_of, turns_of, triple, turn}
 use Rattle.model.proofs.trial.sum_pilots.Goals as goal
 
 pub loop-j-init : goal.loop-j-init

@@ -1,8 +1,5 @@
-use Rattle.model.proofs.Strides.{turn_within}
-use Rattle.model.proofs.Trials.{turned, summed_up}
-use Rattle.std.proofs.Common.{◌≡◌, ◌-◌, ◌≤◌, length, arith, rules}
+use Rattle.std.proofs.Common.{◌≡◌, ◌-◌, ◌≤◌, length}
 use Rattle.seq.specs.Loop.{for}
-use Rattle.seq.specs.Loop.Laws.{for_none, for_step}
 use Rattle.ieee.specs.Num.{zero64}
 use Rattle.load.specs.Pilots.{pilots}
 use Rattle.model.specs.Score.{stride_of, turns_of, triple, turn}

@@ -1,5 +1,5 @@
 -- `turns` meets its contract.
-use Rattle.std.proofs.Common.{arith, rules}
+use Rattle.std.proofs.Common.{arith}
 use Rattle.model.specs.Score.{turns_of}
 use Rattle.model.proofs.Strides.{stride_pos, stride_most}
 use Rattle.model.proofs.trial.turns.Goals as goal

@@ -1,5 +1,5 @@
 -- `with_model` meets its contract.
-use Rattle.std.proofs.Common.{sym, arith, length-take-le, rules}
+use Rattle.std.proofs.Common.{sym, arith, length-take-le}
 use Rattle.model.proofs.trial.with_model.Goals as goal
 
 pub slice_bounds-with_tables-end : goal.slice_bounds-with_tables-end

@@ -1,5 +1,5 @@
 -- `with_tables` meets its contract.
-use Rattle.std.proofs.Common.{length, arith, rules}
+use Rattle.std.proofs.Common.{length, arith}
 use Rattle.load.specs.Pilots.{pilots}
 use Rattle.model.proofs.Trials.{model_tried}
 use Rattle.model.proofs.trial.with_tables.Goals as goal

@@ -1,5 +1,5 @@
 -- `fd_value` meets its contract.
-use Rattle.std.proofs.Common.{rules, le-ltb, lt-ltb}
+use Rattle.std.proofs.Common.{le-ltb, lt-ltb}
 use Rattle.model.specs.Values.{fd_value}
 use Rattle.model.proofs.values.fd_value.Goals as goal
 

@@ -1,5 +1,5 @@
 -- `tm_value` meets its contract.
-use Rattle.std.proofs.Common.{rules, le-ltb, lt-ltb}
+use Rattle.std.proofs.Common.{le-ltb, lt-ltb}
 use Rattle.model.specs.Values.{tm_value}
 use Rattle.model.proofs.values.tm_value.Goals as goal
 

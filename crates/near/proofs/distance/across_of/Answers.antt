@@ -1,5 +1,4 @@
 -- `across_of` meets its contract.
-use borrow.Author.Rules.{rules}
 use Rattle.near.specs.Walk.{across}
 use Rattle.near.proofs.distance.across_of.Goals as goal
 

@@ -3,7 +3,6 @@ use native.Mathlib.Omega.{arith}
 use lib.Dec.{le→leb}
 use lib.Ieee.{in_float}
 use borrow.Author.Tests.{le-leb, lt-leb}
-use borrow.Author.Rules.{rules}
 use Rattle.near.proofs.distance.offset_of.Goals as goal
 
 pub int_to_float-result : goal.int_to_float-result

@@ -6,7 +6,6 @@ use mathlib.Core.Path.{◌≡◌, sym}
 use lib.Dec.{ltb}
 use borrow.Author.Tests.{eq-eqb, ne_eqb}
 use Rattle.near.specs.Search.{apart, skipped_at}
-use borrow.Author.Rules.{rules}
 use Rattle.near.proofs.distance.skips.Goals as goal
 
 pub returns-then-i-x : goal.returns-then-i-x

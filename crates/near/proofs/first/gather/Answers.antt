@@ -1,15 +1,10 @@
 -- `gather` meets its contract: each turn counts and stores one index unless it is skipped.
-use mathlib.Core.List.{[]}
 use Rattle.seq.specs.Loop.Laws.{turn_more, turn_less}
-use Rattle.seq.specs.Loop.{for}
-use Rattle.near.specs.Walk.{skips, push}
-use Rattle.near.proofs.Gathered.{Stored, stored_none, stored_next, gathered_all, gathered_many, turn_fits, offset_fits, turn_below, after, one_each}
-use Prim.Native.Nat.{◌≤◌, ◌-◌}
+use Rattle.near.specs.Walk.{skips}
+use Rattle.near.proofs.Gathered.{stored_none, stored_next, gathered_all, gathered_many, turn_fits, offset_fits, turn_below, after, one_each}
 use mathlib.Core.Path.{◌≡◌, refl, ◌∙◌}
 use native.Mathlib.Nat.{le_refl, le_antisymm, lt_of_lt_of_le}
-use native.Mathlib.Omega.{arith}
 use Prim.Native.Nat.{zero-le}
-use lib.ListN.{length}
 use Rattle.near.proofs.first.gather.Goals as goal
 
 pub loop-i-init : goal.loop-i-init

@@ -1,13 +1,9 @@
 use mathlib.Core.List.{[]}
-use Rattle.seq.specs.Loop.Laws.{turn_more, turn_less}
 use Rattle.seq.specs.Loop.{for}
 use Rattle.near.specs.Walk.{skips, push}
-use Rattle.near.proofs.Gathered.{Stored, stored_none, stored_next, gathered_all, gathered_many, turn_fits, offset_fits, turn_below, after, one_each}
+use Rattle.near.proofs.Gathered.{Stored}
 use Prim.Native.Nat.{◌≤◌, ◌-◌}
-use mathlib.Core.Path.{◌≡◌, refl, ◌∙◌}
-use native.Mathlib.Nat.{le_refl, le_antisymm, lt_of_lt_of_le}
-use native.Mathlib.Omega.{arith}
-use Prim.Native.Nat.{zero-le}
+use mathlib.Core.Path.{◌≡◌}
 use lib.ListN.{length}
 use Rattle.near.proofs.first.gather.Given as goal
 

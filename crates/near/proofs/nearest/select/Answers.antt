@@ -6,7 +6,6 @@ use native.Mathlib.Omega.{arith}
 use Rattle.near.specs.Walk.{skips, keys_in, same, Chain}
 use Rattle.near.proofs.Selected.{keep_chain}
 use Rattle.near.proofs.Terms.{reach, kept_in}
-use borrow.Author.Rules.{rules}
 use Rattle.near.proofs.nearest.select.Goals as goal
 
 pub walk-n-requires : goal.walk-n-requires

@@ -1,13 +1,10 @@
 -- `unpack` meets its contract.
-use mathlib.Core.List.{map}
 use lib.ListN.{length-set}
 use Rattle.near.specs.Walk.{index_in}
 use Rattle.near.proofs.Selected.{mapped_more}
-use Prim.Native.Nat.{◌≤◌, ◌-◌}
 use mathlib.Core.Path.{◌≡◌, refl}
 use native.Mathlib.Omega.{arith}
 use borrow.Author.Rules.{rules}
-use lib.ListN.{length, take}
 use Rattle.near.proofs.nearest.unpack.Goals as goal
 
 pub loop-j-init : goal.loop-j-init

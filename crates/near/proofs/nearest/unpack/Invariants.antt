@@ -1,11 +1,7 @@
 use mathlib.Core.List.{map}
-use lib.ListN.{length-set}
 use Rattle.near.specs.Walk.{index_in}
-use Rattle.near.proofs.Selected.{mapped_more}
 use Prim.Native.Nat.{◌≤◌, ◌-◌}
-use mathlib.Core.Path.{◌≡◌, refl}
-use native.Mathlib.Omega.{arith}
-use borrow.Author.Rules.{rules}
+use mathlib.Core.Path.{◌≡◌}
 use lib.ListN.{length, take}
 use Rattle.near.proofs.nearest.unpack.Given as goal
 

@@ -1,12 +1,8 @@
 -- `walk` meets its contract: what is kept of the indices passed is in order, and each turn inserts one unless it is skipped.
-use Prim.Native.Nat.{◌-◌, ◌≤◌}
 use mathlib.Core.Path.{◌≡◌, refl, sym, subst, ◌∙◌}
 use native.Mathlib.Omega.{arith}
-use borrow.Author.Rules.{rules}
-use lib.ListN.{length, take}
-use Rattle.seq.specs.Loop.{for}
 use Rattle.seq.specs.Loop.Laws.{for_none, for_step}
-use Rattle.near.specs.Walk.{skips, keys_in, same, keep, Chain}
+use Rattle.near.specs.Walk.{skips, keys_in, same, Chain}
 use Rattle.near.proofs.Selected.{keep_chain}
 use Rattle.near.proofs.nearest.walk.Goals as goal
 

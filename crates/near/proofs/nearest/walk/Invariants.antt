@@ -1,12 +1,8 @@
 use Prim.Native.Nat.{◌-◌, ◌≤◌}
-use mathlib.Core.Path.{◌≡◌, refl, sym, subst, ◌∙◌}
-use native.Mathlib.Omega.{arith}
-use borrow.Author.Rules.{rules}
+use mathlib.Core.Path.{◌≡◌}
 use lib.ListN.{length, take}
 use Rattle.seq.specs.Loop.{for}
-use Rattle.seq.specs.Loop.Laws.{for_none, for_step}
-use Rattle.near.specs.Walk.{skips, keys_in, same, keep, Chain}
-use Rattle.near.proofs.Selected.{keep_chain}
+use Rattle.near.specs.Walk.{skips, keys_in, keep}
 use Rattle.near.proofs.nearest.walk.Given as goal
 
 abbrev pub invariant-loop-i : goal.invariant-loop-i

@@ -3,7 +3,6 @@ use Prim.Native.Nat.{◌-◌}
 use native.Mathlib.Omega.{arith}
 use Rattle.near.specs.Walk.{same}
 use Rattle.near.proofs.Places.{chain_shorter, with_room, no_room, too_far}
-use borrow.Author.Rules.{rules}
 use Rattle.near.proofs.ordered.insert_in.Goals as goal
 
 pub returns-then-n-k : goal.returns-then-n-k

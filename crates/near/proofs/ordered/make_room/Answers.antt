@@ -1,10 +1,9 @@
 -- `make_room` meets its contract: all from j on are greater than x, and have moved one place further.
-use Prim.Native.Nat.{ℕ, ◌-◌, ◌≤◌, ◌<◌}
+use Prim.Native.Nat.{◌-◌}
 use mathlib.Core.Path.{refl}
 use native.Mathlib.Omega.{arith}
 use borrow.Author.Rules.{rules}
-use lib.ListN.{get_or}
-use Rattle.near.specs.Walk.{same, Moved}
+use Rattle.near.specs.Walk.{same}
 use Rattle.near.proofs.Places.{rank_found, above_more, moved_more}
 use Rattle.near.proofs.ordered.make_room.Goals as goal
 

@@ -1,10 +1,6 @@
-use Prim.Native.Nat.{ℕ, ◌-◌, ◌≤◌, ◌<◌}
-use mathlib.Core.Path.{refl}
-use native.Mathlib.Omega.{arith}
-use borrow.Author.Rules.{rules}
+use Prim.Native.Nat.{ℕ, ◌≤◌, ◌<◌}
 use lib.ListN.{get_or}
-use Rattle.near.specs.Walk.{same, Moved}
-use Rattle.near.proofs.Places.{rank_found, above_more, moved_more}
+use Rattle.near.specs.Walk.{Moved}
 use Rattle.near.proofs.ordered.make_room.Given as goal
 
 abbrev pub invariant-loop-j : goal.invariant-loop-j

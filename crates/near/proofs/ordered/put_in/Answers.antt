@@ -1,6 +1,5 @@
 -- `put_in` meets its contract: x goes where `make_room` made room.
 use native.Mathlib.Omega.{arith}
-use borrow.Author.Rules.{rules}
 use Rattle.near.proofs.Places.{put_moved}
 use Rattle.near.proofs.ordered.put_in.Goals as goal
 

@@ -1,13 +1,8 @@
 -- `across_all` writes the terms one after the other.
-use Prim.Native.Nat.{◌-◌, ◌≤◌}
-use mathlib.Core.Path.{◌≡◌}
-use mathlib.Core.List.{◌++◌}
 use native.Mathlib.Omega.{arith}
 use borrow.Author.Rules.{rules}
-use lib.ListN.{length, drop, length-set}
-use Rattle.seq.specs.Tab.{tab}
+use lib.ListN.{length-set}
 use Rattle.seq.specs.Tab.Laws.{tab_none, tab_step, tab_end}
-use Rattle.near.specs.Walk.{across}
 use Rattle.near.proofs.tables.across_all.Goals as goal
 
 pub loop-c-init : goal.loop-c-init

@@ -1,13 +1,8 @@
 -- `along_all` writes the terms one after the other.
-use Prim.Native.Nat.{ℕ, ◌+◌, ◌-◌, ◌≤◌}
-use mathlib.Core.Path.{◌≡◌}
-use mathlib.Core.List.{◌++◌}
 use native.Mathlib.Omega.{arith}
 use borrow.Author.Rules.{rules}
-use lib.ListN.{length, drop, length-set}
-use Rattle.seq.specs.Tab.{tab}
+use lib.ListN.{length-set}
 use Rattle.seq.specs.Tab.Laws.{tab_none, tab_step, tab_end}
-use Rattle.near.specs.Walk.{along}
 use Rattle.near.proofs.tables.along_all.Goals as goal
 
 pub loop-j-init : goal.loop-j-init

@@ -1,11 +1,8 @@
 use Prim.Native.Nat.{ℕ, ◌+◌, ◌-◌, ◌≤◌}
 use mathlib.Core.Path.{◌≡◌}
 use mathlib.Core.List.{◌++◌}
-use native.Mathlib.Omega.{arith}
-use borrow.Author.Rules.{rules}
-use lib.ListN.{length, drop, length-set}
+use lib.ListN.{length, drop}
 use Rattle.seq.specs.Tab.{tab}
-use Rattle.seq.specs.Tab.Laws.{tab_none, tab_step, tab_end}
 use Rattle.near.specs.Walk.{along}
 use Rattle.near.proofs.tables.along_all.Given as goal
 

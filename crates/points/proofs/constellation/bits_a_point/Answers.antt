@@ -1,6 +1,5 @@
 -- `bits_a_point` by the code.
 use mathlib.Core.Path.{sym, ap}
-use borrow.Author.Rules.{rules}
 use Rattle.points.specs.Constellation.{bps_of}
 use Rattle.points.proofs.Counts.{from_three}
 use Rattle.points.proofs.constellation.bits_a_point.Goals as goal

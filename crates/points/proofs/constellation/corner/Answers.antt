@@ -1,5 +1,4 @@
 -- `corner` rounds as the source does.
-use borrow.Author.Rules.{rules}
 use native.Mathlib.Omega.{arith}
 use Rattle.points.specs.Constellation.{corner_of}
 use Rattle.ieee.proofs.Floats.{counted}

@@ -1,6 +1,5 @@
 -- `gray8` reads the labels in order.
 use mathlib.Core.Path.{refl}
-use borrow.Author.Rules.{rules}
 use Rattle.points.proofs.Counts.{label8_below}
 use Rattle.points.proofs.constellation.gray8.Goals as goal
 

@@ -1,6 +1,5 @@
 -- `label` joins two Gray codes.
 use mathlib.Core.Path.{refl}
-use borrow.Author.Rules.{rules}
 use Rattle.points.specs.Constellation.{label_of}
 use Rattle.points.proofs.Counts.{label_shifted, label_below}
 use Rattle.points.proofs.constellation.label.Goals as goal

@@ -1,6 +1,5 @@
 -- `level` rounds as the source does.
 use mathlib.Core.Path.{refl}
-use borrow.Author.Rules.{rules}
 use native.Mathlib.Omega.{arith}
 use Rattle.points.specs.Constellation.{level}
 use Rattle.ieee.proofs.Floats.{counted}

@@ -1,5 +1,4 @@
 -- `on_circle` asks sin and cos for an angle that they take.
-use borrow.Author.Rules.{rules}
 use native.Mathlib.Omega.{arith}
 use Rattle.points.specs.Constellation.{angle, circle_point}
 use Rattle.ieee.proofs.Floats.{counted}

@@ -1,6 +1,5 @@
 -- `points` by the code.
 use mathlib.Core.Path.{sym, ap, ◌∙◌}
-use borrow.Author.Rules.{rules}
 use Rattle.points.specs.Constellation.{points_of}
 use Rattle.points.proofs.Counts.{from_three}
 use Rattle.points.proofs.constellation.points.Goals as goal

@@ -1,14 +1,12 @@
 -- `qam` by the state of its loop.
-use Prim.Native.Nat.{◌*◌, ◌≤◌, ◌-◌}
-use mathlib.Core.Path.{◌≡◌, ap}
+use Prim.Native.Nat.{◌*◌}
+use mathlib.Core.Path.{ap}
 use borrow.Author.Rules.{rules}
-use native.Mathlib.Omega.{arith}
-use Rattle.seq.specs.Loop.{for}
 use Rattle.seq.specs.Loop.Laws.{for_none, for_step, for_end}
 use mathlib.Core.List.{List}
 use lib.Ieee.{Float}
 use Rattle.points.specs.Table.{blank}
-use Rattle.points.specs.Constellation.{qam_row, qam_of}
+use Rattle.points.specs.Constellation.{qam_of}
 use Rattle.points.proofs.constellation.qam.Goals as goal
 
 pub loop-i-init : goal.loop-i-init

@@ -1,13 +1,8 @@
-use Prim.Native.Nat.{◌*◌, ◌≤◌, ◌-◌}
-use mathlib.Core.Path.{◌≡◌, ap}
-use borrow.Author.Rules.{rules}
-use native.Mathlib.Omega.{arith}
+use Prim.Native.Nat.{◌≤◌, ◌-◌}
+use mathlib.Core.Path.{◌≡◌}
 use Rattle.seq.specs.Loop.{for}
-use Rattle.seq.specs.Loop.Laws.{for_none, for_step, for_end}
-use mathlib.Core.List.{List}
-use lib.Ieee.{Float}
 use Rattle.points.specs.Table.{blank}
-use Rattle.points.specs.Constellation.{qam_row, qam_of}
+use Rattle.points.specs.Constellation.{qam_row}
 use Rattle.points.proofs.constellation.qam.Given as goal
 
 abbrev pub invariant-loop-i : goal.invariant-loop-i

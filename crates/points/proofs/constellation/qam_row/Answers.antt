@@ -1,9 +1,6 @@
 -- `qam_row` by the state of its loop.
-use Prim.Native.Nat.{◌≤◌, ◌-◌}
-use mathlib.Core.Path.{◌≡◌}
 use borrow.Author.Rules.{rules}
 use native.Mathlib.Omega.{arith}
-use Rattle.seq.specs.Loop.{for}
 use Rattle.seq.specs.Loop.Laws.{for_none, for_step, for_end}
 use Rattle.points.specs.Constellation.{qam_turn, qam_row}
 use Rattle.points.proofs.Counts.{at_most_8}

@@ -1,11 +1,7 @@
 use Prim.Native.Nat.{◌≤◌, ◌-◌}
 use mathlib.Core.Path.{◌≡◌}
-use borrow.Author.Rules.{rules}
-use native.Mathlib.Omega.{arith}
 use Rattle.seq.specs.Loop.{for}
-use Rattle.seq.specs.Loop.Laws.{for_none, for_step, for_end}
-use Rattle.points.specs.Constellation.{qam_turn, qam_row}
-use Rattle.points.proofs.Counts.{at_most_8}
+use Rattle.points.specs.Constellation.{qam_turn}
 use Rattle.points.proofs.constellation.qam_row.Given as goal
 
 abbrev pub invariant-loop-q : goal.invariant-loop-q

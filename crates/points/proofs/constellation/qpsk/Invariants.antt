@@ -1,12 +1,8 @@
 use Prim.Native.Nat.{◌≤◌, ◌-◌}
-use mathlib.Core.Path.{◌≡◌, ap}
-use borrow.Author.Rules.{rules}
+use mathlib.Core.Path.{◌≡◌}
 use Rattle.seq.specs.Loop.{for}
-use Rattle.seq.specs.Loop.Laws.{for_none, for_step, for_end}
-use mathlib.Core.List.{List}
-use lib.Ieee.{Float}
 use Rattle.points.specs.Table.{blank}
-use Rattle.points.specs.Constellation.{qpsk_turn, qpsk_of}
+use Rattle.points.specs.Constellation.{qpsk_turn}
 use Rattle.points.proofs.constellation.qpsk.Given as goal
 
 abbrev pub invariant-loop-label : goal.invariant-loop-label

@@ -1,5 +1,4 @@
 -- `scale` rounds as the source does.
-use borrow.Author.Rules.{rules}
 use native.Mathlib.Omega.{arith}
 use Rattle.points.specs.Constellation.{qam_scale}
 use Rattle.ieee.proofs.Floats.{counted}

@@ -1,11 +1,8 @@
 -- `energy` by the state of its loop.
-use Prim.Native.Nat.{◌≤◌, ◌-◌}
-use mathlib.Core.Path.{◌≡◌}
 use borrow.Author.Rules.{rules}
 use native.Mathlib.Omega.{arith}
-use Rattle.seq.specs.Loop.{for}
 use Rattle.seq.specs.Loop.Laws.{for_none, for_step, for_end}
-use Rattle.points.specs.Power.{minus_zero, energy_turn, energy_of}
+use Rattle.points.specs.Power.{energy_turn, energy_of}
 use Rattle.points.proofs.Counts.{at_most_64}
 use Rattle.points.proofs.power.energy.Goals as goal
 

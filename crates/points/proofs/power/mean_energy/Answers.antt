@@ -1,5 +1,4 @@
 -- `mean_energy` rounds as the source does.
-use borrow.Author.Rules.{rules}
 use native.Mathlib.Omega.{arith}
 use Rattle.points.specs.Power.{mean_energy_of}
 use Rattle.ieee.proofs.Floats.{counted}

@@ -1,8 +1,5 @@
 -- `scaled` by the state of its loop.
-use Prim.Native.Nat.{◌≤◌, ◌-◌}
-use mathlib.Core.Path.{◌≡◌}
 use borrow.Author.Rules.{rules}
-use Rattle.seq.specs.Loop.{for}
 use Rattle.seq.specs.Loop.Laws.{for_none, for_step, for_end}
 use Rattle.points.specs.Power.{scale_turn, scaled_of}
 use Rattle.points.proofs.power.scaled.Goals as goal

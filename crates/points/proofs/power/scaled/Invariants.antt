@@ -1,9 +1,7 @@
 use Prim.Native.Nat.{◌≤◌, ◌-◌}
 use mathlib.Core.Path.{◌≡◌}
-use borrow.Author.Rules.{rules}
 use Rattle.seq.specs.Loop.{for}
-use Rattle.seq.specs.Loop.Laws.{for_none, for_step, for_end}
-use Rattle.points.specs.Power.{scale_turn, scaled_of}
+use Rattle.points.specs.Power.{scale_turn}
 use Rattle.points.proofs.power.scaled.Given as goal
 
 abbrev pub invariant-loop-k : goal.invariant-loop-k

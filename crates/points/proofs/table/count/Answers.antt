@@ -1,5 +1,4 @@
 -- `count` is a power of two.
-use borrow.Author.Rules.{rules}
 use Rattle.points.proofs.Counts.{one_shifted}
 use Rattle.points.proofs.table.count.Goals as goal
 

@@ -1,5 +1,4 @@
 -- `probes::carriers_at`: no more pilots than carriers.
-use borrow.Author.Rules.{rules}
 use Rattle.layout.proofs.Fits.{at_fits, pilots_le}
 use Rattle.layout.specs.Maps.{carriers_at}
 use Rattle.probes.proofs.cells.carriers_at.Goals as goal

@@ -1,6 +1,5 @@
 -- `probes::map_of`: every layout fits.
 use mathlib.Core.Path.{refl}
-use borrow.Author.Rules.{rules}
 use Rattle.layout.proofs.Fits.{layout_fits, map_fits}
 use Rattle.probes.proofs.cells.map_of.Goals as goal
 

@@ -2,7 +2,6 @@
 use mathlib.Core.Path.{sym, ◌∙◌}
 use native.Mathlib.Omega.{arith}
 use borrow.Author.Tests.{lt-ltb, le-ltb}
-use borrow.Author.Rules.{rules}
 use Rattle.load.proofs.Counted.{past_first}
 use Rattle.probes.proofs.cells.probe_cell_index.Goals as goal
 

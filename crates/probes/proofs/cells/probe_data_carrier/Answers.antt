@@ -1,7 +1,6 @@
 -- `probes::probe_data_carrier` meets its contract.
 use native.Mathlib.Omega.{arith}
 use borrow.Author.Tests.{le-leb, lt-leb, lt-ltb, le-ltb}
-use borrow.Author.Rules.{rules}
 use Rattle.probes.proofs.cells.probe_data_carrier.Goals as goal
 
 pub returns-then-g-eq0 : goal.returns-then-g-eq0

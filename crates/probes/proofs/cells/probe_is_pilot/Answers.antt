@@ -1,5 +1,4 @@
 -- `probes::probe_is_pilot` meets its contract.
-use borrow.Author.Rules.{rules}
 use Rattle.probes.proofs.cells.probe_is_pilot.Goals as goal
 
 pub returns : goal.returns

@@ -2,7 +2,6 @@
 use native.Mathlib.Omega.{arith}
 use lib.ListN.{length}
 use borrow.Author.Tests.{le-leb, lt-leb, lt-ltb, le-ltb}
-use borrow.Author.Rules.{rules}
 use Rattle.probes.proofs.Puts.{nothing_put, all_put}
 use Rattle.probes.proofs.cells.probe_known.Goals as goal
 

@@ -1,5 +1,4 @@
 -- `probes::probe_loud` meets its contract.
-use borrow.Author.Rules.{rules}
 use Rattle.probes.proofs.constellations.probe_loud.Goals as goal
 
 pub returns : goal.returns

@@ -1,5 +1,4 @@
 -- `probes::probe_mean_energy` meets its contract.
-use borrow.Author.Rules.{rules}
 use Rattle.probes.proofs.Asked.{few_bits}
 use Rattle.probes.proofs.constellations.probe_mean_energy.Goals as goal
 

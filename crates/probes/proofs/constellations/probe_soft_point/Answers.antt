@@ -2,7 +2,6 @@
 use native.Mathlib.Omega.{arith}
 use lib.ListN.{length}
 use borrow.Author.Tests.{le-leb, lt-leb}
-use borrow.Author.Rules.{rules}
 use Rattle.probes.proofs.Asked.{few_bits}
 use Rattle.probes.proofs.Puts.{nothing_put, all_put}
 use Rattle.probes.proofs.constellations.probe_soft_point.Goals as goal

@@ -1,6 +1,5 @@
 -- `probes::probe_gain` meets its contract.
 use native.Mathlib.Omega.{arith}
-use borrow.Author.Rules.{rules}
 use borrow.Author.Tests.{le-leb, lt-leb}
 use Rattle.ieee.proofs.Floats.{quotient_nan}
 use Rattle.probes.specs.Within.{within}

@@ -3,7 +3,6 @@ use native.Mathlib.Omega.{arith}
 use lib.ListN.{length}
 use borrow.Author.Tests.{le-leb, lt-leb}
 use Rattle.probes.proofs.Puts.{nothing_put, all_put}
-use borrow.Author.Rules.{rules}
 use Rattle.probes.proofs.likelihoods.probe_decide.Goals as goal
 
 pub returns-then-bps-gt6 : goal.returns-then-bps-gt6

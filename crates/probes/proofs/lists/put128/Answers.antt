@@ -3,7 +3,6 @@ use mathlib.Core.Path.{ap, ◌∙◌}
 use mathlib.Core.List.{List, ◌++◌}
 use lib.ListN.{drop}
 use lib.Ieee.{Float, nan}
-use borrow.Author.Rules.{rules}
 use Rattle.seq.specs.Tab.Laws.{tab-itself}
 use Rattle.probes.proofs.lists.put128.Goals as goal
 

@@ -1,5 +1,4 @@
 -- `probes::put2` meets its contract.
-use borrow.Author.Rules.{rules}
 use Rattle.probes.proofs.Stores.{two}
 use Rattle.probes.proofs.lists.put2.Goals as goal
 

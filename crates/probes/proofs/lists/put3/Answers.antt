@@ -1,7 +1,6 @@
 -- `probes::put3` meets its contract.
 use native.Mathlib.Omega.{arith}
 use lib.ListN.{length-set}
-use borrow.Author.Rules.{rules}
 use Rattle.probes.proofs.Stores.{three}
 use Rattle.probes.proofs.lists.put3.Goals as goal
 

@@ -1,7 +1,6 @@
 -- `probes::no_room` meets its contract.
 use native.Mathlib.Omega.{arith}
 use Rattle.probes.proofs.Loadings.{missed, met, places_small}
-use borrow.Author.Rules.{rules}
 use Rattle.probes.proofs.pilots.no_room.Goals as goal
 
 pub overflow_mul-n : goal.overflow_mul-n

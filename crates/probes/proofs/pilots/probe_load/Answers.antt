@@ -2,7 +2,6 @@
 use mathlib.Core.Path.{refl}
 use native.Mathlib.Omega.{arith}
 use Rattle.probes.proofs.Loadings.{refused, taken}
-use borrow.Author.Rules.{rules}
 use Rattle.probes.proofs.pilots.probe_load.Goals as goal
 
 pub returns-then-s-gt1023 : goal.returns-then-s-gt1023

@@ -1,7 +1,6 @@
 -- `probes::short` meets its contract.
 use native.Mathlib.Omega.{arith}
 use Rattle.probes.proofs.Loadings.{missed, met, ncell_small}
-use borrow.Author.Rules.{rules}
 use Rattle.probes.proofs.pilots.short.Goals as goal
 
 pub overflow_mul-n : goal.overflow_mul-n

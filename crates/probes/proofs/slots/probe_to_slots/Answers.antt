@@ -1,6 +1,5 @@
 use native.Mathlib.Omega.{arith}
 use lib.ListN.{length}
-use borrow.Author.Rules.{rules}
 use borrow.Author.Tests.{le-leb, lt-leb}
 use Rattle.probes.proofs.Puts.{nothing_put, all_put}
 use Rattle.probes.proofs.slots.probe_to_slots.Goals as goal

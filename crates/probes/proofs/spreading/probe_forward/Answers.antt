@@ -3,7 +3,6 @@ use Prim.Native.Nat.{◌*◌}
 use native.Mathlib.Omega.{arith}
 use lib.ListN.{length}
 use borrow.Author.Tests.{le-leb, lt-leb}
-use borrow.Author.Rules.{rules}
 use Rattle.probes.proofs.Puts.{nothing_put, all_put}
 use Rattle.probes.proofs.spreading.probe_forward.Goals as goal
 

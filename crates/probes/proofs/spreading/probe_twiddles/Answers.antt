@@ -2,7 +2,6 @@
 use mathlib.Core.Path.{refl}
 use native.Mathlib.Omega.{arith}
 use borrow.Author.Tests.{le-leb, lt-leb}
-use borrow.Author.Rules.{rules}
 use Rattle.probes.proofs.spreading.probe_twiddles.Goals as goal
 
 pub returns-then-m-eq0 : goal.returns-then-m-eq0

@@ -5,7 +5,6 @@ use Rattle.bits.specs.Slots.{bit_order}
 use Rattle.refine.proofs.Exact.{exact}
 use native.Mathlib.Omega.{arith}
 use lib.Ieee.{nan}
-use borrow.Author.Rules.{rules}
 use Rattle.seq.specs.Tab.Laws.{tab-itself}
 use Rattle.refine.proofs.bit_order.to_bit_order.Goals as goal
 

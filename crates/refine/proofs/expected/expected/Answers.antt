@@ -1,6 +1,5 @@
 -- `expected` meets its contract.
 use Rattle.refine.proofs.Hearing.{heard}
-use borrow.Author.Rules.{rules}
 use Rattle.refine.proofs.expected.expected.Goals as goal
 
 pub returns : goal.returns

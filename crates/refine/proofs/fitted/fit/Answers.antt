@@ -10,7 +10,6 @@ use Rattle.est.specs.Model.{SetModel}
 use Rattle.model.specs.declared.trial.Setting.{Setting}
 use Rattle.model.specs.declared.select.Model.{Model}
 use Rattle.model.specs.Values.{FitModels, numerology_of, window_of, fd_value, tm_value}
-use borrow.Author.Rules.{rules}
 use Rattle.refine.proofs.fitted.fit.Goals as goal
 
 pub set_model-u-requires : goal.set_model-u-requires

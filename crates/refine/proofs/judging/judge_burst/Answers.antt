@@ -1,6 +1,5 @@
 -- `judge_burst` meets its contract.
 use Rattle.refine.proofs.Sliced.{may_choose}
-use borrow.Author.Rules.{rules}
 use Rattle.refine.proofs.judging.judge_burst.Goals as goal
 
 pub select_model-m-requires : goal.select_model-m-requires

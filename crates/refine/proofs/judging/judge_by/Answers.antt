@@ -1,7 +1,6 @@
 -- `judge_by` meets its contract.
 use mathlib.Core.Path.{◌∙◌}
 use Rattle.refine.proofs.Sliced.{fits_under, under_by}
-use borrow.Author.Rules.{rules}
 use Rattle.refine.proofs.judging.judge_by.Goals as goal
 
 pub judge_symbols-requires : goal.judge_symbols-requires

@@ -2,7 +2,6 @@
 use native.Mathlib.Omega.{arith}
 use mathlib.Core.Path.{sym}
 use lib.Seq.{length-take-le}
-use borrow.Author.Rules.{rules}
 use Rattle.refine.proofs.judging.judge_under.Goals as goal
 
 pub slice_bounds-judge_by-end : goal.slice_bounds-judge_by-end

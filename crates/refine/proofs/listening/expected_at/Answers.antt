@@ -5,7 +5,6 @@ use Rattle.seq.specs.Cat.Laws.{lent}
 use lib.ListN.{length}
 use Rattle.refine.proofs.Exact.{put_middle}
 use Rattle.refine.proofs.Hearing.{heard_at}
-use borrow.Author.Rules.{rules}
 use Rattle.refine.proofs.listening.expected_at.Goals as goal
 
 pub returns : goal.returns

@@ -4,7 +4,6 @@ use mathlib.Core.Path.{ap, ◌∙◌}
 use native.Mathlib.Omega.{arith}
 use lib.ListN.{length}
 use Rattle.refine.proofs.Hearing.{listened}
-use borrow.Author.Rules.{rules}
 use Rattle.refine.proofs.listening.listen.Goals as goal
 
 pub load_below-requires : goal.load_below-requires

@@ -3,7 +3,6 @@ use native.Mathlib.Omega.{arith}
 use mathlib.Core.Path.{sym, ◌∙◌}
 use lib.Seq.{length-take-le}
 use Rattle.refine.proofs.Hearing.{loaded_below}
-use borrow.Author.Rules.{rules}
 use Rattle.refine.proofs.listening.load_below.Goals as goal
 
 pub slice_bounds-load-end-2 : goal.slice_bounds-load-end-2

@@ -1,6 +1,5 @@
 -- `mean_energy` meets its contract.
 use Rattle.points.proofs.Laws.{points_laws}
-use borrow.Author.Rules.{rules}
 use Rattle.refine.proofs.settings.mean_energy.Goals as goal
 
 pub mean_energy-requires : goal.mean_energy-requires

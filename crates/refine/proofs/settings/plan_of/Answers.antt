@@ -1,7 +1,6 @@
 -- `plan_of` meets its contract.
 use mathlib.Core.Path.{refl}
 use Rattle.layout.proofs.Fits.{layout_fits}
-use borrow.Author.Rules.{rules}
 use Rattle.refine.proofs.settings.plan_of.Goals as goal
 
 pub ng-ng-requires : goal.ng-ng-requires

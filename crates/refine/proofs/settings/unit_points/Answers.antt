@@ -1,6 +1,5 @@
 -- `unit_points` meets its contract.
 use Rattle.refine.specs.Refine.{unit}
-use borrow.Author.Rules.{rules}
 use Rattle.refine.proofs.settings.unit_points.Goals as goal
 
 pub returns-then-s : goal.returns-then-s

@@ -1,6 +1,5 @@
 -- `count` meets its contract.
 use native.Mathlib.Omega.{arith}
-use borrow.Author.Rules.{rules}
 use Rattle.refine.proofs.spoilt.count.Goals as goal
 
 pub returns-then-x : goal.returns-then-x

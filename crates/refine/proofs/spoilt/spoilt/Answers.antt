@@ -1,8 +1,5 @@
 -- `spoilt` meets its contract.
-use Prim.Native.Nat.{◌≤◌, ◌-◌}
-use mathlib.Core.Path.{◌≡◌}
 use native.Mathlib.Omega.{arith}
-use Rattle.seq.specs.Loop.{for}
 use Rattle.seq.specs.Loop.Laws.{for_none, for_step, for_end}
 use Rattle.refine.specs.Refine.{spoilt_turn, spoilt_of}
 use borrow.Author.Rules.{rules}

@@ -1,10 +1,7 @@
 use Prim.Native.Nat.{◌≤◌, ◌-◌}
 use mathlib.Core.Path.{◌≡◌}
-use native.Mathlib.Omega.{arith}
 use Rattle.seq.specs.Loop.{for}
-use Rattle.seq.specs.Loop.Laws.{for_none, for_step, for_end}
-use Rattle.refine.specs.Refine.{spoilt_turn, spoilt_of}
-use borrow.Author.Rules.{rules}
+use Rattle.refine.specs.Refine.{spoilt_turn}
 use Rattle.refine.proofs.spoilt.spoilt.Given as goal
 
 abbrev pub invariant-loop-i : goal.invariant-loop-i

@@ -1,12 +1,8 @@
 -- `judge_symbols` meets its contract.
-use Prim.Native.Nat.{◌≤◌, ◌-◌, ◌*◌}
 use mathlib.Core.Path.{◌≡◌, refl, ◌∙◌}
 use native.Mathlib.Omega.{arith}
-use Rattle.load.specs.Pilots.{pilots}
-use Rattle.judge.specs.Upto.{Upto}
 use Rattle.refine.proofs.EachSymbol.{may_judge, upto_none, upto_next}
 use borrow.Author.Rules.{rules}
-use lib.ListN.{length}
 use Rattle.refine.proofs.symbols.judge_symbols.Goals as goal
 
 pub loop-t-init : goal.loop-t-init
@@ -14,8 +10,7 @@ loop-t-init c = (search rules, refl, refl, upto_none _ _ _ _ _ _ _ _ _ _ _ _ _)
 
 pub judge_symbol-requires : goal.judge_symbol-requires
 judge_symbol-requires c =
-    let l = c.loop-t in
-    (
+    let l = c.loop-t in (
       c.requires.0,
       may_judge c.args.s c.args.m _ c.args.soft.now c.args.grid.now c.args.cells.now c.args.channel.now c.args.answer.now _ _ l.t c.requires.1
           c.loop-t-test.true c.twiddles_of-tw.ensures l.invariant.1 l.invariant.2,

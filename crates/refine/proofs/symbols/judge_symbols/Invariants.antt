@@ -1,10 +1,7 @@
 use Prim.Native.Nat.{◌≤◌, ◌-◌, ◌*◌}
-use mathlib.Core.Path.{◌≡◌, refl, ◌∙◌}
-use native.Mathlib.Omega.{arith}
+use mathlib.Core.Path.{◌≡◌}
 use Rattle.load.specs.Pilots.{pilots}
 use Rattle.judge.specs.Upto.{Upto}
-use Rattle.refine.proofs.EachSymbol.{may_judge, upto_none, upto_next}
-use borrow.Author.Rules.{rules}
 use lib.ListN.{length}
 use Rattle.refine.proofs.symbols.judge_symbols.Given as goal
 

@@ -1,6 +1,5 @@
 -- `twiddles_of` meets its contract.
 use Rattle.refine.proofs.EachSymbol.{not_both}
-use borrow.Author.Rules.{rules}
 use Rattle.refine.proofs.symbols.twiddles_of.Goals as goal
 
 pub returns : goal.returns

@@ -2,7 +2,6 @@
 use Rattle.refine.specs.Refine.{burst}
 use Rattle.refine.proofs.Ready.{ready}
 use Rattle.refine.proofs.Joined.{may_judge_loaded, rejudged_by}
-use borrow.Author.Rules.{rules}
 use Rattle.refine.proofs.whole.judge_again.Goals as goal
 
 pub listen-np-requires : goal.listen-np-requires

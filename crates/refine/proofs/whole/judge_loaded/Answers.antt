@@ -1,6 +1,5 @@
 -- `judge_loaded` meets its contract.
 use Rattle.refine.proofs.Sliced.{loaded_in, symbols_in, judged_in}
-use borrow.Author.Rules.{rules}
 use Rattle.refine.proofs.whole.judge_loaded.Goals as goal
 
 pub judge_burst-requires : goal.judge_burst-requires

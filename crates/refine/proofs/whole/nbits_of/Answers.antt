@@ -1,7 +1,6 @@
 -- `nbits_of` meets its contract.
 use native.Mathlib.Omega.{arith}
 use Rattle.refine.proofs.Ready.{bits_most}
-use borrow.Author.Rules.{rules}
 use Rattle.refine.proofs.whole.nbits_of.Goals as goal
 
 pub overflow_mul-result : goal.overflow_mul-result

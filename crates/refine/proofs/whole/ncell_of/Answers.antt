@@ -3,7 +3,6 @@ use mathlib.Core.Path.{ap, ◌∙◌}
 use Rattle.layout.specs.Sizes.{ncell_of}
 use Rattle.layout.proofs.Fits.{layout_fits}
 use Rattle.refine.proofs.Ready.{cells_most}
-use borrow.Author.Rules.{rules}
 use Rattle.refine.proofs.whole.ncell_of.Goals as goal
 
 pub ncell-requires : goal.ncell-requires

@@ -5,7 +5,6 @@ use lib.Seq.{length-take-le}
 use Rattle.refine.specs.Refine.{burst}
 use Rattle.refine.proofs.Ready.{exact_fit}
 use Rattle.refine.proofs.Joined.{refined}
-use borrow.Author.Rules.{rules}
 use Rattle.refine.proofs.whole.refine.Goals as goal
 
 pub slice_bounds-refine_exact-end-2 : goal.slice_bounds-refine_exact-end-2

@@ -3,7 +3,6 @@ use mathlib.Core.Path.{sym, ◌∙◌}
 use Rattle.refine.specs.Refine.{burst}
 use Rattle.refine.proofs.Ready.{in_room, bits_fit}
 use Rattle.refine.proofs.Joined.{refined_exactly}
-use borrow.Author.Rules.{rules}
 use Rattle.refine.proofs.whole.refine_exact.Goals as goal
 
 pub slice_bounds-to_bit_order-end-2 : goal.slice_bounds-to_bit_order-end-2
@@ -13,8 +12,7 @@ slice_bounds-to_bit_order-end-2 c =
 
 pub to_bit_order-requires : goal.to_bit_order-requires
 to_bit_order-requires c =
-    let j = c.judge_again-m in
-    (
+    let j = c.judge_again-m in (
       in_room (burst c.args.s c.args.grid.now c.args.sigma.now c.args.cells.now) c.args.answer.now c.args.channel.now c.args.wf.now c.args.wu.now c.requires _ _ j.auto.answer j.auto.wf,
       (bits_fit (burst c.args.s c.args.grid.now c.args.sigma.now c.args.cells.now) c.args.answer.now c.args.channel.now c.args.wf.now c.args.wu.now c.requires _ j.auto.answer).0,
       (bits_fit (burst c.args.s c.args.grid.now c.args.sigma.now c.args.cells.now) c.args.answer.now c.args.channel.now c.args.wf.now c.args.wu.now c.requires _ j.auto.answer).1,

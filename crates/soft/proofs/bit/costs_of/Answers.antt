@@ -1,6 +1,5 @@
 -- `costs_of` by the sign of the prior.
 use lib.Ieee.{of_bits}
-use borrow.Author.Rules.{rules}
 use Rattle.soft.specs.Soft.{cost_of}
 use Rattle.elementary.proofs.Laws.{exp_laws}
 use Rattle.soft.proofs.Costs.{neg_above, below, zero_above, one_above, zero_below, one_below}

@@ -1,5 +1,5 @@
 -- `log_probabilities` goes from level to level.
-use Prim.Native.Nat.{ℕ, ◌-◌, ◌≤◌}
+use Prim.Native.Nat.{ℕ}
 use mathlib.Core.Path.{◌≡◌, subst}
 use borrow.Author.Rules.{rules}
 use native.Mathlib.Omega.{arith}

@@ -1,10 +1,5 @@
-use Prim.Native.Nat.{ℕ, ◌-◌, ◌≤◌}
-use mathlib.Core.Path.{◌≡◌, subst}
-use borrow.Author.Rules.{rules}
-use native.Mathlib.Omega.{arith}
-use Rattle.soft.specs.Soft.{prior_at}
+use Prim.Native.Nat.{◌-◌, ◌≤◌}
 use Rattle.soft.specs.Tree.{Level}
-use Rattle.soft.proofs.Prefix.{at_most_32, level_none, level_more}
 use Rattle.soft.proofs.labels.log_probabilities.Given as goal
 
 abbrev pub invariant-loop-b : goal.invariant-loop-b

@@ -1,13 +1,9 @@
 use Prim.Native.Nat.{◌*◌, ◌-◌, ◌≤◌}
 use mathlib.Core.Path.{◌≡◌}
 use mathlib.Core.List.{◌++◌}
-use borrow.Author.Rules.{rules}
-use native.Mathlib.Omega.{arith}
 use lib.ListN.{drop}
 use Rattle.seq.specs.Tab.{tab}
-use Rattle.seq.specs.Tab.Laws.{tab_none}
 use Rattle.soft.specs.Tree.{page, child}
-use Rattle.soft.proofs.Prefix.{length_page, two_more, written}
 use Rattle.soft.proofs.labels.split.Given as goal
 
 abbrev pub invariant-loop-i : goal.invariant-loop-i

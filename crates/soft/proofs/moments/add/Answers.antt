@@ -1,5 +1,4 @@
 -- `add` rounds as the source does.
-use borrow.Author.Rules.{rules}
 use Rattle.soft.specs.Soft.{added}
 use Rattle.soft.proofs.moments.add.Goals as goal
 

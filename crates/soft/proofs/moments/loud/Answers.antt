@@ -1,5 +1,4 @@
 -- `loud` compares as the source does.
-use borrow.Author.Rules.{rules}
 use Rattle.soft.specs.Soft.{loud_of}
 use Rattle.soft.proofs.moments.loud.Goals as goal
 

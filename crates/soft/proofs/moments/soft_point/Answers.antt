@@ -1,10 +1,8 @@
 -- `soft_point` by the state of its loop: exp is asked for no number above zero, since no logarithm of a probability is.
-use Prim.Native.Nat.{◌-◌, ◌≤◌}
 use mathlib.Core.Path.{◌≡◌, ap, ◌∙◌}
 use borrow.Author.Rules.{rules}
 use lib.Ieee.{of_bits}
 use native.Mathlib.Omega.{arith}
-use Rattle.seq.specs.Loop.{for}
 use Rattle.seq.specs.Loop.Laws.{for_none, for_step}
 use Rattle.points.proofs.Counts.{at_most_64}
 use Rattle.soft.specs.Soft.{point_turn, nothing, moments_of, soft_of, soft_point}

@@ -1,13 +1,7 @@
 use Prim.Native.Nat.{◌-◌, ◌≤◌}
-use mathlib.Core.Path.{◌≡◌, ap, ◌∙◌}
-use borrow.Author.Rules.{rules}
-use lib.Ieee.{of_bits}
-use native.Mathlib.Omega.{arith}
+use mathlib.Core.Path.{◌≡◌}
 use Rattle.seq.specs.Loop.{for}
-use Rattle.seq.specs.Loop.Laws.{for_none, for_step}
-use Rattle.points.proofs.Counts.{at_most_64}
-use Rattle.soft.specs.Soft.{point_turn, nothing, moments_of, soft_of, soft_point}
-use Rattle.soft.proofs.Prefix.{log_side}
+use Rattle.soft.specs.Soft.{point_turn, nothing}
 use Rattle.soft.proofs.moments.soft_point.Given as goal
 
 abbrev pub invariant-loop-k : goal.invariant-loop-k

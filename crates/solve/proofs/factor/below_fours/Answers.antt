@@ -1,10 +1,6 @@
 -- `solve::below_fours` meets its contract. The invariant: the rows below i are done. Assumes nothing.
-use Prim.Native.Nat.{◌≤◌, ◌+◌, ◌-◌}
-use mathlib.Core.Path.{◌≡◌}
 use native.Mathlib.Omega.{arith}
-use Rattle.seq.specs.Loop.{for}
 use Rattle.seq.specs.Loop.Laws.{for_none, for_after}
-use Rattle.solve.specs.Solve.{below}
 use Rattle.solve.proofs.factor.below_fours.Goals as goal
 
 pub loop-i-init : goal.loop-i-init

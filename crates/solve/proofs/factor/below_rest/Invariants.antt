@@ -1,8 +1,6 @@
 use Prim.Native.Nat.{◌≤◌, ◌-◌}
 use mathlib.Core.Path.{◌≡◌}
-use native.Mathlib.Omega.{arith}
 use Rattle.seq.specs.Loop.{for}
-use Rattle.seq.specs.Loop.Laws.{for_none, for_step, for_end}
 use Rattle.solve.specs.Solve.{below}
 use Rattle.solve.proofs.factor.below_rest.Given as goal
 

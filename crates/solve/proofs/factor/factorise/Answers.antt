@@ -1,11 +1,8 @@
 -- `solve::factorise` meets its contract. The invariant: the columns below j are done. Assumes nothing.
-use Prim.Native.Nat.{◌≤◌, ◌-◌}
-use mathlib.Core.Path.{◌≡◌}
 use native.Mathlib.Omega.{arith}
 use borrow.Author.Rules.{rules}
-use Rattle.seq.specs.Loop.{for}
 use Rattle.seq.specs.Loop.Laws.{for_none, for_step, for_end}
-use Rattle.solve.specs.Solve.{column, factor}
+use Rattle.solve.specs.Solve.{factor}
 use Rattle.solve.proofs.factor.factorise.Goals as goal
 
 pub loop-j-init : goal.loop-j-init

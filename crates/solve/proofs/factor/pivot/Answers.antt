@@ -1,5 +1,4 @@
 -- `solve::pivot` meets its contract. Assumes nothing.
-use borrow.Author.Rules.{rules}
 use Rattle.solve.specs.Solve.{diagonal}
 use Rattle.solve.proofs.factor.pivot.Goals as goal
 

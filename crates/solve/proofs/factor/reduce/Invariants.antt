@@ -1,10 +1,7 @@
 use Prim.Native.Nat.{◌≤◌, ◌-◌}
-use mathlib.Core.Path.{◌≡◌, ◌∙◌}
-use native.Mathlib.Omega.{arith}
-use borrow.Author.Rules.{rules}
+use mathlib.Core.Path.{◌≡◌}
 use Rattle.seq.specs.Loop.{for}
-use Rattle.seq.specs.Loop.Laws.{for_none, for_step, for_end}
-use Rattle.solve.specs.Solve.{at2, minus_rows, reduced}
+use Rattle.solve.specs.Solve.{at2, minus_rows}
 use Rattle.solve.proofs.factor.reduce.Given as goal
 
 abbrev pub invariant-loop-p : goal.invariant-loop-p

@@ -1,6 +1,5 @@
 -- `solve::reduce_column` meets its contract: the rows by fours and the rest are one loop. Assumes nothing.
 use native.Mathlib.Omega.{arith}
-use borrow.Author.Rules.{rules}
 use Rattle.seq.specs.Loop.Laws.{for_after}
 use Rattle.solve.specs.Solve.{column}
 use Rattle.solve.proofs.factor.reduce_column.Goals as goal

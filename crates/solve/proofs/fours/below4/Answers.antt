@@ -1,6 +1,5 @@
 -- `solve::below4` meets its contract: no store is seen by a row that is still to be stored. Assumes nothing.
 use native.Mathlib.Omega.{arith}
-use borrow.Author.Rules.{rules}
 use Rattle.solve.proofs.Rows.{together}
 use Rattle.solve.proofs.fours.below4.Goals as goal
 

@@ -1,11 +1,9 @@
 -- `solve::reduce4` meets its contract. The invariant: each row's s is what its own products below p leave of its element. Assumes nothing.
-use Prim.Native.Nat.{◌≤◌, ◌+◌, ◌-◌}
-use mathlib.Core.Path.{◌≡◌, ◌∙◌}
+use mathlib.Core.Path.{◌∙◌}
 use native.Mathlib.Omega.{arith}
 use borrow.Author.Rules.{rules}
-use Rattle.seq.specs.Loop.{for}
 use Rattle.seq.specs.Loop.Laws.{for_none, for_step, for_end}
-use Rattle.solve.specs.Solve.{at2, minus_rows, reduced}
+use Rattle.solve.specs.Solve.{reduced}
 use Rattle.solve.proofs.fours.reduce4.Goals as goal
 
 pub loop-p-init : goal.loop-p-init

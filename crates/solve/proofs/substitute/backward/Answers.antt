@@ -1,11 +1,9 @@
 -- `solve::backward` meets its contract. The invariant: the rows below i, from w, give what all k give from zeros. Assumes nothing.
-use Prim.Native.Nat.{◌≤◌}
-use mathlib.Core.Path.{◌≡◌, refl}
+use mathlib.Core.Path.{refl}
 use native.Mathlib.Omega.{arith}
 use borrow.Author.Rules.{rules}
-use Rattle.seq.specs.Loop.{back}
 use Rattle.seq.specs.Loop.Laws.{back_step, back_end}
-use Rattle.solve.specs.Solve.{backward_row, backward}
+use Rattle.solve.specs.Solve.{backward}
 use Rattle.solve.proofs.substitute.backward.Goals as goal
 
 pub loop-i-init : goal.loop-i-init

@@ -1,10 +1,7 @@
 use Prim.Native.Nat.{◌≤◌}
-use mathlib.Core.Path.{◌≡◌, refl}
-use native.Mathlib.Omega.{arith}
-use borrow.Author.Rules.{rules}
+use mathlib.Core.Path.{◌≡◌}
 use Rattle.seq.specs.Loop.{back}
-use Rattle.seq.specs.Loop.Laws.{back_step, back_end}
-use Rattle.solve.specs.Solve.{backward_row, backward}
+use Rattle.solve.specs.Solve.{backward_row}
 use Rattle.solve.proofs.substitute.backward.Given as goal
 
 abbrev pub invariant-loop-i : goal.invariant-loop-i

@@ -1,11 +1,8 @@
 -- `solve::backward_sum` meets its contract. The invariant: s is what the products from i + 1 to p leave of y[i]. Assumes nothing.
-use Prim.Native.Nat.{◌≤◌, ◌+◌, ◌-◌}
-use mathlib.Core.Path.{◌≡◌}
 use native.Mathlib.Omega.{arith}
 use borrow.Author.Rules.{rules}
-use Rattle.seq.specs.Loop.{for}
 use Rattle.seq.specs.Loop.Laws.{for_none, for_step, for_end}
-use Rattle.solve.specs.Solve.{at, minus_backward, backward_sum}
+use Rattle.solve.specs.Solve.{backward_sum}
 use Rattle.solve.proofs.substitute.backward_sum.Goals as goal
 
 pub loop-p-init : goal.loop-p-init

@@ -1,11 +1,8 @@
 -- `solve::forward` meets its contract. The invariant: the rows below i are done. Assumes nothing.
-use Prim.Native.Nat.{◌≤◌, ◌-◌}
-use mathlib.Core.Path.{◌≡◌}
 use native.Mathlib.Omega.{arith}
 use borrow.Author.Rules.{rules}
-use Rattle.seq.specs.Loop.{for}
 use Rattle.seq.specs.Loop.Laws.{for_none, for_step, for_end}
-use Rattle.solve.specs.Solve.{forward_row, forward}
+use Rattle.solve.specs.Solve.{forward}
 use Rattle.solve.proofs.substitute.forward.Goals as goal
 
 pub loop-i-init : goal.loop-i-init

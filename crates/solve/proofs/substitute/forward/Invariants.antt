@@ -1,10 +1,7 @@
 use Prim.Native.Nat.{◌≤◌, ◌-◌}
 use mathlib.Core.Path.{◌≡◌}
-use native.Mathlib.Omega.{arith}
-use borrow.Author.Rules.{rules}
 use Rattle.seq.specs.Loop.{for}
-use Rattle.seq.specs.Loop.Laws.{for_none, for_step, for_end}
-use Rattle.solve.specs.Solve.{forward_row, forward}
+use Rattle.solve.specs.Solve.{forward_row}
 use Rattle.solve.proofs.substitute.forward.Given as goal
 
 abbrev pub invariant-loop-i : goal.invariant-loop-i

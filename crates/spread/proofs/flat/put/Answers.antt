@@ -1,6 +1,5 @@
 -- `flat::put` writes both numbers within the list.
 use native.Mathlib.Omega.{arith}
-use borrow.Author.Rules.{rules}
 use lib.ListN.{length-set}
 use Rattle.spread.proofs.flat.put.Goals as goal
 

@@ -1,6 +1,5 @@
 -- `transform::factor` goes by the test of the definition.
 use mathlib.Core.Path.{ap, ◌∙◌}
-use borrow.Author.Rules.{rules}
 use Rattle.dsp.specs.Arithmetic.{conjᶜ}
 use Rattle.spread.specs.Spreader.{factor}
 use Rattle.spread.proofs.transform.factor.Goals as goal

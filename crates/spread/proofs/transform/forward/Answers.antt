@@ -1,5 +1,4 @@
 -- `transform::forward` is `in_place` in its direction.
-use borrow.Author.Rules.{rules}
 use Rattle.spread.specs.Spreader.{forward_of}
 use Rattle.spread.proofs.transform.forward.Goals as goal
 

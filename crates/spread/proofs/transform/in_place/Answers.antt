@@ -1,5 +1,4 @@
 -- `transform::in_place` reads its copy, which has what the list had.
-use borrow.Author.Rules.{rules}
 use Rattle.spread.proofs.Spreading.{transform_copy}
 use Rattle.spread.proofs.transform.in_place.Goals as goal
 

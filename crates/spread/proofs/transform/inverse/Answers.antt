@@ -1,5 +1,4 @@
 -- `transform::inverse` is `in_place` in its direction.
-use borrow.Author.Rules.{rules}
 use Rattle.spread.specs.Spreader.{inverse_of}
 use Rattle.spread.proofs.transform.inverse.Goals as goal
 

@@ -1,6 +1,5 @@
 -- `transform::next` goes by the test of the definition.
 use native.Mathlib.Omega.{arith}
-use borrow.Author.Rules.{rules}
 use Rattle.spread.proofs.Spreading.{next_wraps, next_goes}
 use Rattle.spread.proofs.transform.next.Goals as goal
 

@@ -1,11 +1,7 @@
 -- `transform::sum` holds the state of the definition's loop, its index below m.
-use Rattle.std.specs.Prelude.{◌≡◌, ℕ, ◌-◌, ◌<◌, ◌≤◌}
 use mathlib.Core.Path.{ap, ap₂}
 use native.Mathlib.Omega.{arith}
-use borrow.Author.Rules.{rules}
-use Rattle.seq.specs.Loop.{for}
 use Rattle.seq.specs.Loop.Laws.{for_none, for_step, for_end}
-use Rattle.dsp.specs.declared.Complex.{Complex}
 use Rattle.spread.specs.Spreader.{Sum, start, turn, sum_of}
 use Rattle.spread.proofs.Spreading.{next_lt}
 use Rattle.spread.proofs.transform.sum.Invariants.{state}

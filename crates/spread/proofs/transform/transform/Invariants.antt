@@ -1,10 +1,6 @@
 use Rattle.std.specs.Prelude.{◌≡◌, ◌-◌, ◌*◌, ◌≤◌, ◌++◌, length, drop}
-use mathlib.Core.Path.{refl, ◌∙◌}
-use native.Mathlib.Omega.{arith}
-use borrow.Author.Rules.{rules}
-use Rattle.spread.specs.Spreader.{output, transform}
-use Rattle.spread.proofs.Pairs.{pairs, pairs_none, pairs_step, pairs_end}
-use Rattle.spread.proofs.Spreading.{output_of}
+use Rattle.spread.specs.Spreader.{output}
+use Rattle.spread.proofs.Pairs.{pairs}
 use Rattle.spread.proofs.transform.transform.Given as goal
 
 abbrev pub invariant-loop-k : goal.invariant-loop-k

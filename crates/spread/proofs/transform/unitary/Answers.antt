@@ -1,7 +1,6 @@
 -- `transform::unitary` is the definition's, and the cast is of a number below 2 ^ 24.
 use Rattle.std.specs.Prelude.{◌^◌}
 use native.Mathlib.Omega.{arith}
-use borrow.Author.Rules.{rules}
 use lib.Dec.{le→leb}
 use lib.Ieee.{in_float}
 use Rattle.spread.specs.Spreader.{unitary}

@@ -1,10 +1,8 @@
 -- `twiddle::fill` has written those below k, and nothing past them.
-use Rattle.std.specs.Prelude.{◌≡◌, ◌-◌, ◌*◌, ◌≤◌, ◌++◌, length, drop}
 use mathlib.Core.Path.{refl, ◌∙◌}
 use native.Mathlib.Omega.{arith}
-use borrow.Author.Rules.{rules}
 use Rattle.spread.specs.Spreader.{twiddle}
-use Rattle.spread.proofs.Pairs.{pairs, pairs_none, pairs_step, pairs_end}
+use Rattle.spread.proofs.Pairs.{pairs_none, pairs_step, pairs_end}
 use Rattle.spread.proofs.twiddle.fill.Goals as goal
 
 pub loop-k-init : goal.loop-k-init

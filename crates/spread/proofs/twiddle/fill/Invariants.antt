@@ -1,9 +1,6 @@
 use Rattle.std.specs.Prelude.{◌≡◌, ◌-◌, ◌*◌, ◌≤◌, ◌++◌, length, drop}
-use mathlib.Core.Path.{refl, ◌∙◌}
-use native.Mathlib.Omega.{arith}
-use borrow.Author.Rules.{rules}
 use Rattle.spread.specs.Spreader.{twiddle}
-use Rattle.spread.proofs.Pairs.{pairs, pairs_none, pairs_step, pairs_end}
+use Rattle.spread.proofs.Pairs.{pairs}
 use Rattle.spread.proofs.twiddle.fill.Given as goal
 
 abbrev pub invariant-loop-k : goal.invariant-loop-k

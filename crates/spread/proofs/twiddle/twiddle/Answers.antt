@@ -1,5 +1,4 @@
 -- `twiddle::twiddle` asks for the cosine and the sine of an angle that they are defined at.
-use borrow.Author.Rules.{rules}
 use Rattle.spread.specs.Spreader.{twiddle}
 use Rattle.spread.proofs.Angles.{asked}
 use Rattle.spread.proofs.twiddle.twiddle.Goals as goal

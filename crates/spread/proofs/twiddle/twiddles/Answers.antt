@@ -1,7 +1,6 @@
 -- `twiddle::twiddles`: what `fill` leaves of the zeros.
 use Rattle.std.specs.Prelude.{◌*◌}
 use native.Mathlib.Omega.{arith}
-use borrow.Author.Rules.{rules}
 use Rattle.spread.specs.Spreader.{twiddles_of}
 use Rattle.spread.proofs.Spreading.{zeros_left}
 use Rattle.spread.proofs.twiddle.twiddles.Goals as goal

@@ -1,6 +1,5 @@
 -- `verdict` meets its contract: each row is left with its number.
 use mathlib.Core.Path.{refl, sym, ◌∙◌}
-use borrow.Author.Rules.{rules}
 use Rattle.table.specs.Sizes.{Counted}
 use Rattle.table.specs.Refusals.{refusal_of}
 use Rattle.table.proofs.Passing.{counted}

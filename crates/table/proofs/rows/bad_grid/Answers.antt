@@ -1,6 +1,5 @@
 -- `bad_grid` meets its contract.
 use mathlib.Core.Path.{refl}
-use borrow.Author.Rules.{rules}
 use native.Mathlib.Omega.{arith}
 use Rattle.table.specs.Rows.{bad_grid}
 use Rattle.table.proofs.Bounded.{small}

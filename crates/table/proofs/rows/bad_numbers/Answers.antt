@@ -1,6 +1,5 @@
 -- `bad_numbers` meets its contract.
 use mathlib.Core.Path.{refl}
-use borrow.Author.Rules.{rules}
 use Rattle.table.specs.Rows.{bad_numbers}
 use Rattle.table.proofs.rows.bad_numbers.Goals as goal
 

@@ -1,6 +1,5 @@
 -- `bad_settings` meets its contract.
 use mathlib.Core.Path.{refl}
-use borrow.Author.Rules.{rules}
 use Rattle.table.specs.Rows.{bad_settings}
 use Rattle.table.proofs.rows.bad_settings.Goals as goal
 

@@ -1,6 +1,5 @@
 -- `bad_variances` meets its contract.
 use mathlib.Core.Path.{refl, sym, ◌∙◌}
-use borrow.Author.Rules.{rules}
 use borrow.Author.Tests.{eq-eqb, ne_eqb}
 use Rattle.table.specs.Rows.{bad_variances}
 use Rattle.table.proofs.rows.bad_variances.Goals as goal

@@ -1,6 +1,5 @@
 -- `is_power` meets its contract.
 use mathlib.Core.Path.{refl}
-use borrow.Author.Rules.{rules}
 use Rattle.table.specs.Rows.{is_power}
 use Rattle.table.proofs.rows.is_power.Goals as goal
 

@@ -1,5 +1,4 @@
 -- `room_for` meets its contract.
-use borrow.Author.Rules.{rules}
 use native.Mathlib.Omega.{arith}
 use Rattle.table.proofs.Bounded.{small}
 use Rattle.table.proofs.Room.{no_answer, no_channel, no_work, last_list}

@@ -1,6 +1,5 @@
 -- `grid_cells` meets its contract.
 use mathlib.Core.Path.{refl}
-use borrow.Author.Rules.{rules}
 use native.Mathlib.Omega.{arith}
 use Rattle.layout.proofs.Fits.{layout_fits}
 use Rattle.table.proofs.Bounded.{small}

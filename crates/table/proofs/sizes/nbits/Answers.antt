@@ -1,6 +1,5 @@
 -- `nbits` meets its contract.
 use mathlib.Core.Path.{refl}
-use borrow.Author.Rules.{rules}
 use native.Mathlib.Omega.{arith}
 use Rattle.table.proofs.Bounded.{small}
 use Rattle.table.proofs.sizes.nbits.Goals as goal

@@ -1,5 +1,4 @@
 -- `nc` meets its contract.
-use borrow.Author.Rules.{rules}
 use mathlib.Core.Path.{refl}
 use Rattle.table.proofs.sizes.nc.Goals as goal
 

@@ -1,6 +1,5 @@
 -- `ncell` meets its contract.
 use mathlib.Core.Path.{refl}
-use borrow.Author.Rules.{rules}
 use Rattle.layout.proofs.Fits.{layout_fits}
 use Rattle.table.proofs.sizes.ncell.Goals as goal
 

@@ -1,7 +1,6 @@
 -- `Header::data_from` meets its contract.
 use mathlib.Core.Path.{refl}
 use Rattle.header.specs.Fields.{data_from}
-use borrow.Author.Rules.{rules}
 use Rattle.header.proofs.fields.Header.data_from.Goals as goal
 
 pub returns : goal.returns

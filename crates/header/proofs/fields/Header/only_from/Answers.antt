@@ -1,7 +1,6 @@
 -- `Header::only_from` meets its contract.
 use mathlib.Core.Path.{refl}
 use Rattle.header.specs.Fields.{only_from}
-use borrow.Author.Rules.{rules}
 use Rattle.header.proofs.fields.Header.only_from.Goals as goal
 
 pub returns : goal.returns

@@ -1,7 +1,6 @@
 -- `DataMode::bits` meets its contract.
 use mathlib.Core.Path.{refl}
 use Rattle.header.specs.Fields.{mode_bits}
-use borrow.Author.Rules.{rules}
 use Rattle.header.proofs.mode.DataMode.bits.Goals as goal
 
 pub returns : goal.returns

@@ -1,6 +1,5 @@
 -- `DataMode::from_bits` meets its contract.
 use mathlib.Core.Path.{refl}
-use borrow.Author.Rules.{rules}
 use Rattle.header.specs.Fields.{mode_from}
 use Rattle.header.proofs.mode.DataMode.from_bits.Goals as goal
 

@@ -1,5 +1,4 @@
 -- `Layout::data_carriers` meets its contract. Assumes nothing.
-use Rattle.std.proofs.Common.{rules}
 use Rattle.layout.specs.Sizes.{data_carriers_of}
 use Rattle.layout.proofs.Fits.{pattern_fits, pilots_le}
 use Rattle.layout.proofs.layouts.Layout.data_carriers.Goals as goal

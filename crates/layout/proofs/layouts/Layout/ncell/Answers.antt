@@ -1,5 +1,5 @@
 -- `Layout::ncell` meets its contract. Assumes nothing.
-use Rattle.std.proofs.Common.{◌≤◌, mul-le-mul, arith, rules}
+use Rattle.std.proofs.Common.{◌≤◌, mul-le-mul, arith}
 use Rattle.layout.specs.Sizes.{data_carriers_of}
 use Rattle.layout.proofs.Fits.{carriers_le}
 use Rattle.layout.proofs.layouts.Layout.ncell.Goals as goal

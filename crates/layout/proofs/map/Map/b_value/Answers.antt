@@ -1,5 +1,5 @@
 -- `Map::b_value` meets its contract: the numbers are small, and the phase is one that sin and cos are asked for. Assumes nothing.
-use Rattle.std.proofs.Common.{arith, rules}
+use Rattle.std.proofs.Common.{arith}
 use lib.Ieee.{binary32, binary64}
 use Rattle.layout.specs.Known.{amp_of, phase_of, b_value}
 use Rattle.layout.specs.Fit.{FitPhases}

@@ -1,5 +1,5 @@
 -- `Map::data_carrier` meets its contract: both arms are the closed form of `proofs/Cells.antt`. Assumes nothing.
-use Rattle.std.proofs.Common.{◌≤◌, arith, rules}
+use Rattle.std.proofs.Common.{◌≤◌, arith}
 use Rattle.layout.specs.Patterns.{first_pilot}
 use Rattle.layout.specs.Maps.{pattern_at}
 use Rattle.layout.proofs.Fits.{at_fits}

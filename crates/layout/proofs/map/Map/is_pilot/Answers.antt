@@ -1,5 +1,5 @@
 -- `Map::is_pilot` meets its contract. Assumes nothing.
-use Rattle.std.proofs.Common.{rules, eq-eqb, ne_eqb}
+use Rattle.std.proofs.Common.{eq-eqb, ne_eqb}
 use Rattle.layout.specs.Maps.{is_pilot}
 use Rattle.layout.proofs.Fits.{at_fits}
 use Rattle.layout.proofs.map.Map.is_pilot.Goals as goal

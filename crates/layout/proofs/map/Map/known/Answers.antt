@@ -1,5 +1,5 @@
 -- `Map::known` meets its contract. Assumes nothing.
-use Rattle.std.proofs.Common.{rules, eq-eqb, ne_eqb}
+use Rattle.std.proofs.Common.{eq-eqb, ne_eqb}
 use Rattle.layout.specs.Known.{known_value}
 use Rattle.layout.proofs.map.Map.known.Goals as goal
 

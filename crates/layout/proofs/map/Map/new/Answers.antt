@@ -1,5 +1,4 @@
 -- `Map::new` meets its contract. Assumes nothing.
-use Rattle.std.proofs.Common.{rules}
 use Rattle.layout.specs.Maps.{map_of}
 use Rattle.layout.proofs.map.Map.new.Goals as goal
 

@@ -1,5 +1,5 @@
 -- `Map::p_sym` meets its contract: the counts are small enough to be f32. Assumes nothing.
-use Rattle.std.proofs.Common.{◌≤◌, arith, rules}
+use Rattle.std.proofs.Common.{◌≤◌, arith}
 use lib.Ieee.{binary32}
 use Rattle.layout.specs.Known.{p_sym}
 use Rattle.layout.proofs.Fits.{pilots_le}

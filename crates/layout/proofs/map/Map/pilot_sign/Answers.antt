@@ -1,5 +1,5 @@
 -- `Map::pilot_sign` meets its contract: a cell's number fits 32 bits. Assumes nothing.
-use Rattle.std.proofs.Common.{◌%◌, sym, ◌∙◌, arith, rules, eq-eqb, ne_eqb}
+use Rattle.std.proofs.Common.{◌%◌, sym, ◌∙◌, arith, eq-eqb, ne_eqb}
 use lib.Bits.{and_mask}
 use Rattle.layout.specs.Known.{pilot_sign}
 use Rattle.layout.proofs.Small.{cell_number}

@@ -1,5 +1,5 @@
 -- `Map::pilot_value` meets its contract. Assumes nothing.
-use Rattle.std.proofs.Common.{rules, le-leb}
+use Rattle.std.proofs.Common.{le-leb}
 use borrow.Author.Tests.{lt-leb}
 use Rattle.layout.specs.Known.{pilot_value}
 use Rattle.layout.proofs.map.Map.pilot_value.Goals as goal

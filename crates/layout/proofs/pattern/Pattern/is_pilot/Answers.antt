@@ -1,5 +1,5 @@
 -- `Pattern::is_pilot` meets its contract. Assumes nothing.
-use Rattle.std.proofs.Common.{rules, eq-eqb, ne_eqb}
+use Rattle.std.proofs.Common.{eq-eqb, ne_eqb}
 use Rattle.layout.specs.Patterns.{on_pattern}
 use Rattle.layout.proofs.pattern.Pattern.is_pilot.Goals as goal
 

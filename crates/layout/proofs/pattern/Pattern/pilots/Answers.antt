@@ -1,5 +1,5 @@
 -- `Pattern::pilots` meets its contract: there are no more pilots than carriers. Assumes nothing.
-use Rattle.std.proofs.Common.{◌-◌, refl, div-le_self, arith, rules}
+use Rattle.std.proofs.Common.{◌-◌, refl, div-le_self, arith}
 use Rattle.layout.specs.Patterns.{pilots_of}
 use Rattle.layout.proofs.pattern.Pattern.pilots.Goals as goal
 

@@ -1,0 +1,7 @@
+use Rattle.replay.proofs.Agreeing.{right}
+use Rattle.replay.proofs.entry.repeated.Goals as goal
+
+pub returns : goal.returns
+returns c = λ e.
+    let q = c.refine_record in
+    right c.args.rec.now c.args.answer.now c.args.page.now c.args.out.now q.new.out q.result c.args.number q.ensures c.requires c.if-refine_record-number.false (c.holds.ensures e)
