@@ -1,7 +1,6 @@
 -- `power_told` meets its contract.
 use mathlib.Core.Path.{sym, ap, ◌∙◌}
 use Rattle.asides.specs.Told.{refused_by, power_told}
-use borrow.Author.Rules.{rules}
 use Rattle.asides.proofs.channels.power_told.Goals as goal
 
 pub returns-in-Refused : goal.returns-in-Refused

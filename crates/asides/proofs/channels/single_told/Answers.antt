@@ -1,7 +1,6 @@
 -- `single_told` meets its contract.
 use mathlib.Core.Path.{sym, ap, ◌∙◌}
 use Rattle.asides.specs.Told.{refused_by, single_told}
-use borrow.Author.Rules.{rules}
 use Rattle.asides.proofs.channels.single_told.Goals as goal
 
 pub returns-in-Refused : goal.returns-in-Refused

@@ -1,7 +1,6 @@
 -- `decision_told` meets its contract.
 use mathlib.Core.Path.{sym, ap}
 use Rattle.asides.specs.Told.{decision_told}
-use borrow.Author.Rules.{rules}
 use Rattle.asides.proofs.decisions.decision_told.Goals as goal
 
 pub returns-in-Code : goal.returns-in-Code

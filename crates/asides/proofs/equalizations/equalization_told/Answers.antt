@@ -1,7 +1,6 @@
 -- `equalization_told` meets its contract.
 use mathlib.Core.Path.{sym, ap}
 use Rattle.asides.specs.Told.{equalization_told}
-use borrow.Author.Rules.{rules}
 use Rattle.asides.proofs.equalizations.equalization_told.Goals as goal
 
 pub returns-in-Lengths : goal.returns-in-Lengths

@@ -1,7 +1,6 @@
 -- `refinement_told` meets its contract.
 use mathlib.Core.Path.{sym, ap, ◌∙◌}
 use Rattle.asides.specs.Told.{refused_report, report_of}
-use borrow.Author.Rules.{rules}
 use Rattle.asides.proofs.refinements.refinement_told.Goals as goal
 
 pub returns-in-Refused : goal.returns-in-Refused

@@ -1,5 +1,4 @@
 -- `hear` meets its contract.
-use borrow.Author.Rules.{rules}
 use Rattle.refine.specs.Refine.{burst}
 use Rattle.channel.proofs.Fitting.{room}
 use Rattle.channel.proofs.Loading.{heard}

@@ -2,7 +2,6 @@
 use Prim.Native.Nat.{◌-◌}
 use mathlib.Core.Path.{◌≡◌}
 use native.Mathlib.Omega.{arith}
-use borrow.Author.Rules.{rules}
 use lib.ListN.{length, take, drop}
 use Rattle.channel.proofs.Expecting.{whole, expected_in_lem}
 use Rattle.channel.proofs.listening.expected_at.Goals as goal

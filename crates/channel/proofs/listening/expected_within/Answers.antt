@@ -1,6 +1,5 @@
 -- `expected_within` meets its contract.
 use native.Mathlib.Omega.{arith}
-use borrow.Author.Rules.{rules}
 use Rattle.channel.proofs.Expecting.{expected_is}
 use Rattle.channel.proofs.listening.expected_within.Goals as goal
 

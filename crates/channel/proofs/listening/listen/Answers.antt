@@ -1,7 +1,6 @@
 -- `listen` meets its contract.
 use mathlib.Core.Path.{refl}
 use native.Mathlib.Omega.{arith}
-use borrow.Author.Rules.{rules}
 use Rattle.channel.proofs.Expecting.{may_expect, may_load, loads}
 use Rattle.channel.proofs.listening.listen.Goals as goal
 

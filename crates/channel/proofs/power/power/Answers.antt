@@ -1,6 +1,5 @@
 -- `power` meets its contract.
 use mathlib.Core.Path.{refl}
-use borrow.Author.Rules.{rules}
 use Rattle.channel.specs.Power.{power_by}
 use Rattle.channel.proofs.power.power.Goals as goal
 

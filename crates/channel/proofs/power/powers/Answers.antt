@@ -1,12 +1,8 @@
 -- `powers` by the state of its loop.
-use Prim.Native.Nat.{◌≤◌, ◌-◌}
-use mathlib.Core.Path.{◌≡◌, refl}
+use mathlib.Core.Path.{refl}
 use native.Mathlib.Omega.{arith}
-use borrow.Author.Rules.{rules}
-use Rattle.seq.specs.Loop.{for}
 use Rattle.seq.specs.Loop.Laws.{for_none, for_step, for_end}
-use Rattle.points.specs.Power.{minus_zero}
-use Rattle.channel.specs.Power.{plus_power, powers_sum, gain_in}
+use Rattle.channel.specs.Power.{plus_power, powers_sum}
 use Rattle.channel.proofs.power.powers.Goals as goal
 
 pub loop-i-init : goal.loop-i-init

@@ -1,11 +1,8 @@
 use Prim.Native.Nat.{◌≤◌, ◌-◌}
-use mathlib.Core.Path.{◌≡◌, refl}
-use native.Mathlib.Omega.{arith}
-use borrow.Author.Rules.{rules}
+use mathlib.Core.Path.{◌≡◌}
 use Rattle.seq.specs.Loop.{for}
-use Rattle.seq.specs.Loop.Laws.{for_none, for_step, for_end}
 use Rattle.points.specs.Power.{minus_zero}
-use Rattle.channel.specs.Power.{plus_power, powers_sum, gain_in}
+use Rattle.channel.specs.Power.{plus_power, gain_in}
 use Rattle.channel.proofs.power.powers.Given as goal
 
 abbrev pub invariant-loop-i : goal.invariant-loop-i

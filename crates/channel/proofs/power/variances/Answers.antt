@@ -1,12 +1,8 @@
 -- `variances` by the state of its loop.
-use Prim.Native.Nat.{◌≤◌, ◌-◌}
-use mathlib.Core.Path.{◌≡◌, refl}
+use mathlib.Core.Path.{refl}
 use native.Mathlib.Omega.{arith}
-use borrow.Author.Rules.{rules}
-use Rattle.seq.specs.Loop.{for}
 use Rattle.seq.specs.Loop.Laws.{for_none, for_step, for_end}
-use Rattle.points.specs.Power.{minus_zero}
-use Rattle.channel.specs.Power.{plus_variance, variances_sum, variance_in}
+use Rattle.channel.specs.Power.{plus_variance, variances_sum}
 use Rattle.channel.proofs.power.variances.Goals as goal
 
 pub loop-i-init : goal.loop-i-init

@@ -1,6 +1,5 @@
 -- `near_records` meets its contract.
 use native.Mathlib.Omega.{arith}
-use borrow.Author.Rules.{rules}
 use Rattle.channel.proofs.Asking.{spans, near_from}
 use Rattle.channel.proofs.records.near_records.Goals as goal
 

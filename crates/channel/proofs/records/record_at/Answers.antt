@@ -1,6 +1,5 @@
 -- `record_at` meets its contract.
 use mathlib.Core.Path.{refl}
-use borrow.Author.Rules.{rules}
 use Rattle.channel.proofs.records.record_at.Goals as goal
 
 pub returns : goal.returns

@@ -1,15 +1,13 @@
 -- `records_from` meets its contract.
-use Prim.Native.Nat.{ℕ, ◌+◌, ◌-◌, ◌≤◌}
+use Prim.Native.Nat.{ℕ}
 use mathlib.Core.Path.{◌≡◌, refl, ap, ◌∙◌}
 use mathlib.Core.List.{List, ◌++◌}
 use native.Mathlib.Omega.{arith}
-use borrow.Author.Rules.{rules}
-use lib.ListN.{length, take, drop, length-set}
+use lib.ListN.{take, drop, length-set}
 use lib.Seq.{take_at}
 use Rattle.seq.specs.Tab.{tab}
 use Rattle.seq.specs.Tab.Laws.{length_tab, tab_none, tab_step, tab_end}
 use Rattle.load.specs.declared.pilot.Pilot.{Pilot}
-use Rattle.load.specs.Pilots.{pilot_at}
 use Rattle.channel.proofs.records.records_from.Goals as goal
 
 taken : (f : ℕ → Pilot) (n : ℕ) (l₀ l : List Pilot) → l ≡ tab n f ++ drop n l₀ → take n l ≡ tab n f

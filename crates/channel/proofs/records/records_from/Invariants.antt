@@ -1,13 +1,8 @@
 use Prim.Native.Nat.{ℕ, ◌+◌, ◌-◌, ◌≤◌}
-use mathlib.Core.Path.{◌≡◌, refl, ap, ◌∙◌}
-use mathlib.Core.List.{List, ◌++◌}
-use native.Mathlib.Omega.{arith}
-use borrow.Author.Rules.{rules}
-use lib.ListN.{length, take, drop, length-set}
-use lib.Seq.{take_at}
+use mathlib.Core.Path.{◌≡◌}
+use mathlib.Core.List.{◌++◌}
+use lib.ListN.{length, drop}
 use Rattle.seq.specs.Tab.{tab}
-use Rattle.seq.specs.Tab.Laws.{length_tab, tab_none, tab_step, tab_end}
-use Rattle.load.specs.declared.pilot.Pilot.{Pilot}
 use Rattle.load.specs.Pilots.{pilot_at}
 use Rattle.channel.proofs.records.records_from.Given as goal
 

@@ -1,5 +1,4 @@
 -- `estimate_loaded` meets its contract.
-use borrow.Author.Rules.{rules}
 use Rattle.channel.proofs.Asking.{askable, estimated}
 use Rattle.channel.proofs.single.estimate_loaded.Goals as goal
 

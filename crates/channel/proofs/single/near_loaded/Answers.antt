@@ -1,6 +1,5 @@
 -- `near_loaded` meets its contract.
 use native.Mathlib.Omega.{arith}
-use borrow.Author.Rules.{rules}
 use Rattle.channel.proofs.Asking.{loaded_in, near_in}
 use Rattle.channel.proofs.single.near_loaded.Goals as goal
 

@@ -1,7 +1,6 @@
 -- `channel_power` meets its contract.
 use mathlib.Core.Path.{◌∙◌}
 use native.Mathlib.Omega.{arith}
-use borrow.Author.Rules.{rules}
 use Rattle.refine.specs.Refine.{burst}
 use Rattle.channel.proofs.Fitting.{room}
 use Rattle.channel.proofs.Loading.{few, power_heard}

@@ -1,6 +1,5 @@
 -- `estimate` meets its contract.
 use mathlib.Core.Path.{◌∙◌}
-use borrow.Author.Rules.{rules}
 use Rattle.layout.specs.Maps.{map_of}
 use Rattle.refine.specs.Refine.{burst}
 use Rattle.channel.proofs.Fitting.{agreed}

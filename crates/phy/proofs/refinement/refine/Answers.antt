@@ -1,6 +1,5 @@
 -- `refine` meets its contract: nothing is written before the table has passed the call.
 use mathlib.Core.Path.{sym, ap, ◌∙◌}
-use borrow.Author.Rules.{rules}
 use Rattle.table.specs.Causes.{verdict_number}
 use Rattle.table.proofs.Passing.{accepted_fits}
 use Rattle.phy.proofs.Answers.{turned_away, taken}

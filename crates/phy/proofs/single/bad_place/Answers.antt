@@ -1,6 +1,5 @@
 -- `bad_place` meets its contract.
 use mathlib.Core.Path.{refl}
-use borrow.Author.Rules.{rules}
 use borrow.Author.Tests.{le-leb, lt-leb}
 use Rattle.layout.proofs.Fits.{layout_fits}
 use Rattle.phy.specs.Channels.{bad_place}

@@ -1,6 +1,5 @@
 -- `estimate` meets its contract: nothing is written before the table and the place have passed the call.
 use mathlib.Core.Path.{sym, ap, ◌∙◌}
-use borrow.Author.Rules.{rules}
 use Rattle.refine.specs.Refine.{burst}
 use Rattle.table.specs.Causes.{verdict_number}
 use Rattle.phy.proofs.WorkOnly.{passed_fits}

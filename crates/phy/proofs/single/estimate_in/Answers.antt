@@ -1,6 +1,5 @@
 -- `estimate_in` meets its contract: the place is tested before anything is written.
 use mathlib.Core.Path.{sym, ◌∙◌}
-use borrow.Author.Rules.{rules}
 use Rattle.phy.proofs.Measured.{in_grid, is_beyond, is_inside}
 use Rattle.phy.proofs.single.estimate_in.Goals as goal
 

@@ -1,6 +1,5 @@
 -- `work_verdict` meets its contract.
 use mathlib.Core.Path.{◌∙◌}
-use borrow.Author.Rules.{rules}
 use Rattle.refine.specs.Refine.{burst}
 use Rattle.phy.proofs.WorkOnly.{same_table}
 use Rattle.phy.proofs.work.work_verdict.Goals as goal

@@ -1,6 +1,5 @@
 -- `refine_record` meets its contract.
 use mathlib.Core.Path.{sym}
-use borrow.Author.Rules.{rules}
 use Rattle.record.proofs.Answering.{answer_alone}
 use Rattle.record.proofs.calls.refine_record.Goals as goal
 

@@ -2,9 +2,8 @@
 use Prim.Native.Nat.{ℕ, ◌+◌, ◌*◌}
 use mathlib.Core.Path.{◌≡◌, sym, ap, ◌∙◌}
 use native.Mathlib.Omega.{arith}
-use borrow.Author.Rules.{rules}
 use Rattle.wire.specs.declared.shape.Sizes.{Sizes}
-use Rattle.wire.specs.Shape.{shape_refusal, answer_length, channel_length}
+use Rattle.wire.specs.Shape.{answer_length, channel_length}
 use Rattle.wire.proofs.Shaped.{shaped}
 use Rattle.record.proofs.Cutting.{Few, few, may_count, short_record, bits_counted, cells_counted}
 use Rattle.record.proofs.Answering.{bad_shape, no_answer, no_channel}

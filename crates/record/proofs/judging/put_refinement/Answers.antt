@@ -1,6 +1,5 @@
 -- `put_refinement` meets its contract.
 use mathlib.Core.Path.{subst}
-use borrow.Author.Rules.{rules}
 use Rattle.record.specs.Judging.{InBytes}
 use Rattle.record.proofs.Judged.{nothing_written, both_written}
 use Rattle.record.proofs.judging.put_refinement.Goals as goal

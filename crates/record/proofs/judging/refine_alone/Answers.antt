@@ -1,6 +1,5 @@
 -- `refine_alone` meets its contract.
 use mathlib.Core.Path.{sym}
-use borrow.Author.Rules.{rules}
 use Rattle.refine.specs.Refine.{burst}
 use Rattle.record.proofs.Judged.{alone}
 use Rattle.record.proofs.judging.refine_alone.Goals as goal

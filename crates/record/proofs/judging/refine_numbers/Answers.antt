@@ -1,9 +1,8 @@
 -- `refine_numbers` meets its contract.
 use native.Mathlib.Nat.{le_refl}
 use native.Mathlib.Omega.{arith}
-use lib.ListN.{length}
 use Rattle.record.specs.Judging.{settings_in}
-use Rattle.record.proofs.Cutting.{Cut, cuts_at, short_in, cut_out}
+use Rattle.record.proofs.Cutting.{cuts_at, short_in, cut_out}
 use Rattle.record.proofs.judging.refine_numbers.Goals as goal
 
 pub sizes_of-z-requires : goal.sizes_of-z-requires

@@ -1,14 +1,8 @@
-use Prim.Native.Nat.{ℕ, ◌+◌, ◌-◌, ◌*◌, ◌≤◌}
-use mathlib.Core.Path.{◌≡◌, ap, ◌∙◌}
+use Prim.Native.Nat.{◌-◌, ◌*◌, ◌≤◌}
+use mathlib.Core.Path.{◌≡◌}
 use mathlib.Core.List.{◌++◌}
-use native.Mathlib.Omega.{arith}
-use borrow.Author.Rules.{rules}
-use lib.ListN.{length, drop, get_or}
-use lib.Ieee.{nan}
-use Rattle.seq.specs.Cat.Laws.{cat-none, cat_more, length_catted, lent, returned}
-use Rattle.words.specs.Bytes.{word, number}
+use lib.ListN.{length, drop}
 use Rattle.wire.specs.Bytes.{number_bytes}
-use Rattle.words.proofs.Stored.{length_word}
 use Rattle.wire.proofs.answer.put_numbers.Given as goal
 
 abbrev pub invariant-loop-i : goal.invariant-loop-i

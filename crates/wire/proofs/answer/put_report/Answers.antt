@@ -1,7 +1,6 @@
 -- `put_report` meets its contract.
 use mathlib.Core.Path.{ap, sym, ◌∙◌}
 use native.Mathlib.Omega.{arith}
-use borrow.Author.Rules.{rules}
 use lib.ListN.{length, length-set}
 use Rattle.words.specs.Bytes.{word}
 use Rattle.wire.proofs.Stored.{report_stored, length_middle, length_report}

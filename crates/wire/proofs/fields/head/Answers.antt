@@ -1,7 +1,6 @@
 -- `head` meets its contract.
 use native.Mathlib.Omega.{arith}
 use Rattle.wire.specs.Record.{head}
-use borrow.Author.Rules.{rules}
 use Rattle.wire.proofs.fields.head.Goals as goal
 
 pub returns : goal.returns

@@ -1,10 +1,8 @@
 -- `bits` meets its contract.
-use mathlib.Core.Path.{◌≡◌, sym, ap, ◌∙◌}
-use borrow.Author.Rules.{rules}
+use mathlib.Core.Path.{sym, ap, ◌∙◌}
 use Rattle.wire.specs.declared.shape.Sizes.{Sizes}
-use Rattle.wire.specs.Record.{fields_of, fields}
+use Rattle.wire.specs.Record.{fields_of}
 use Rattle.wire.specs.Sizes.{sizes_of}
-use Rattle.wire.specs.Shape.{shape_refusal}
 use Rattle.wire.proofs.Rows.{no_bits, all_bits}
 use Rattle.wire.proofs.Shaped.{shaped, counting}
 use Rattle.wire.proofs.shape.bits.Goals as goal

@@ -1,12 +1,10 @@
 -- `shape_refusal` meets its contract: each row is left with its number.
 use mathlib.Core.Path.{◌≡◌, refl, sym, ap, ◌∙◌}
 use mathlib.Core.Bool.{true, false}
-use borrow.Author.Rules.{rules}
 use borrow.Author.Tests.{lt-ltb, le-ltb}
 use Rattle.table.specs.Rows.{bad_layout, bad_codes, bad_symbols}
 use Rattle.table.proofs.Passing.{counted}
-use Rattle.wire.specs.Record.{fields_of, fields, settings}
-use Rattle.wire.specs.Shape.{bad_record}
+use Rattle.wire.specs.Record.{fields_of, settings}
 use Rattle.wire.proofs.Shaped.{whole_record}
 use Rattle.wire.proofs.Rows.{table, layout_row, codes_row, symbols_row}
 use Rattle.wire.proofs.shape.shape_refusal.Goals as goal

@@ -1,7 +1,6 @@
 -- `sizes_of` meets its contract.
 use mathlib.Core.Path.{refl}
 use native.Mathlib.Omega.{arith}
-use borrow.Author.Rules.{rules}
 use Rattle.layout.proofs.Fits.{layout_fits}
 use Rattle.table.proofs.Bounded.{small}
 use Rattle.wire.specs.Record.{settings_of}
