@@ -2,7 +2,7 @@
 #![tactic(auto)]
 
 mod answers;
-mod bits;
+mod bit_list;
 mod check;
 mod fields;
 mod mask;

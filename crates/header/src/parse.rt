@@ -3,7 +3,7 @@ ghost use Rattle.std.specs.Prelude.{◌≡◌, length};
 ghost use Rattle.header.specs.Frame.{Parses};
 
 use crate::answers::{Cause, Parsed};
-use crate::bits::{all_bits, read_bits};
+use crate::bit_list::{all_bits, read_bits};
 use crate::check::crc16;
 use crate::fields::Header;
 use crate::mask::{data_mask, only_mask};

@@ -4,7 +4,7 @@ ghost use Rattle.header.specs.Causes.{written_number};
 ghost use Rattle.header.specs.Frame.{frame_of, Writes};
 
 use crate::answers::{Cause, Written};
-use crate::bits::push_bits;
+use crate::bit_list::push_bits;
 use crate::check::crc16;
 use crate::fields::{Header, data_info, only_info};
 use crate::mask::{data_mask, only_mask};

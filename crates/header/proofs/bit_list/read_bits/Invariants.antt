@@ -2,7 +2,7 @@ use Prim.Native.Nat.{◌≤◌, ◌-◌}
 use mathlib.Core.Path.{◌≡◌}
 use lib.ListN.{length, take}
 use Rattle.header.specs.Bits.{value}
-use Rattle.header.proofs.bits.read_bits.Given as goal
+use Rattle.header.proofs.bit_list.read_bits.Given as goal
 
 abbrev pub invariant-loop-i : goal.invariant-loop-i
 invariant-loop-i l = (l.i ≤ length l.bits) × (l.v ≡ value (take l.i l.bits))

@@ -4,7 +4,7 @@ use native.Mathlib.Omega.{arith}
 use borrow.Author.Rules.{rules}
 use Rattle.header.specs.Bits.{value}
 use Rattle.header.proofs.Digits.{read_more, read_lt, read_end}
-use Rattle.header.proofs.bits.read_bits.Goals as goal
+use Rattle.header.proofs.bit_list.read_bits.Goals as goal
 
 pub loop-i-init : goal.loop-i-init
 unfolding value

@@ -2,7 +2,7 @@ use Prim.Native.Nat.{◌≤◌, ◌-◌}
 use mathlib.Core.Path.{◌≡◌}
 use lib.ListN.{length, drop}
 use Rattle.header.specs.Bits.{are_bits}
-use Rattle.header.proofs.bits.all_bits.Given as goal
+use Rattle.header.proofs.bit_list.all_bits.Given as goal
 
 abbrev pub invariant-loop-i : goal.invariant-loop-i
 invariant-loop-i l = (l.i ≤ length l.bits) × (are_bits (drop l.i l.bits) ≡ are_bits l.bits)

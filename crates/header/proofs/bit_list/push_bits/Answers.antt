@@ -4,7 +4,7 @@ use native.Mathlib.Omega.{arith}
 use borrow.Author.Rules.{rules}
 use Rattle.seq.specs.Tab.Laws.{tab_none, tab_step}
 use Rattle.header.proofs.Digits.{digit, push_length, push_end}
-use Rattle.header.proofs.bits.push_bits.Goals as goal
+use Rattle.header.proofs.bit_list.push_bits.Goals as goal
 
 pub loop-i-init : goal.loop-i-init
 loop-i-init c = (search rules, refl, tab_none _ _)
