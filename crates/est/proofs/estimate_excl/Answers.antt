@@ -11,7 +11,7 @@ returns-then-n-eq0 c =
     none s.q s.w s.pc.now s.pg.now s.pf.now s.start.now s.x p.loaded p.asked _ k.ensures.same _ _ _ ((let h : length (take c.pick-n.result c.pick-n.new.idx) ≡ c.pick-n.result = length-take-le _ _ (omega (arith, c.pick-n.auto.idx, c.pick-n.ensures.most, c.requires.asked.most)) in h) ∙ c.if-n-eq0.true)
 
 pub slice_bounds-estimate_of-end : goal.slice_bounds-estimate_of-end
-slice_bounds-estimate_of-end c = sym ((let h : length (take c.pick-n.result c.pick-n.new.idx) ≡ c.pick-n.result = length-take-le _ _ (omega (arith, c.pick-n.auto.idx, c.pick-n.ensures.most, c.requires.asked.most)) in h))
+slice_bounds-estimate_of-end c = sym (let h : length (take c.pick-n.result c.pick-n.new.idx) ≡ c.pick-n.result = length-take-le _ _ (omega (arith, c.pick-n.auto.idx, c.pick-n.ensures.most, c.requires.asked.most)) in h)
 
 pub estimate_of-requires : goal.estimate_of-requires
 estimate_of-requires c =
@@ -25,4 +25,4 @@ returns c =
     let s = c.args in
     let p = c.requires in
     let k = c.pick-n in
-    some s.q s.w s.pc.now s.pg.now s.pf.now s.start.now s.x p.loaded p.asked _ k.ensures.same _ _ _ _ (λ z. c.if-n-eq0.false (sym ((let h : length (take c.pick-n.result c.pick-n.new.idx) ≡ c.pick-n.result = length-take-le _ _ (omega (arith, c.pick-n.auto.idx, c.pick-n.ensures.most, c.requires.asked.most)) in h)) ∙ z)) (rw c.f32_to_f64_with_nan.ensures at c.estimate_of.ensures)
+    some s.q s.w s.pc.now s.pg.now s.pf.now s.start.now s.x p.loaded p.asked _ k.ensures.same _ _ _ _ (λ z. c.if-n-eq0.false (sym (let h : length (take c.pick-n.result c.pick-n.new.idx) ≡ c.pick-n.result = length-take-le _ _ (omega (arith, c.pick-n.auto.idx, c.pick-n.ensures.most, c.requires.asked.most)) in h) ∙ z)) (rw c.f32_to_f64_with_nan.ensures at c.estimate_of.ensures)

@@ -12,19 +12,19 @@ pub loop-j-init : goal.loop-j-init
 loop-j-init c = (omega arith, refl, cat-none 3 _ _)
 
 pub overflow_mul-at : goal.overflow_mul-at
-overflow_mul-at c = ((cell_lent c.loop-j.j c.args.s.dc 3 c.loop-j-test.true (few_carriers c.args.s c.requires.0.cells) (omega arith))).from
+overflow_mul-at c = (cell_lent c.loop-j.j c.args.s.dc 3 c.loop-j-test.true (few_carriers c.args.s c.requires.0.cells) (omega arith)).from
 
 pub overflow_add-out : goal.overflow_add-out
-overflow_add-out c = ((cell_lent c.loop-j.j c.args.s.dc 3 c.loop-j-test.true (few_carriers c.args.s c.requires.0.cells) (omega arith))).to
+overflow_add-out c = (cell_lent c.loop-j.j c.args.s.dc 3 c.loop-j-test.true (few_carriers c.args.s c.requires.0.cells) (omega arith)).to
 
 pub offset_bounds-row-at : goal.offset_bounds-row-at
-offset_bounds-row-at c = ((cell_lent c.loop-j.j c.args.s.dc 3 c.loop-j-test.true (few_carriers c.args.s c.requires.0.cells) (omega arith))).offset
+offset_bounds-row-at c = (cell_lent c.loop-j.j c.args.s.dc 3 c.loop-j-test.true (few_carriers c.args.s c.requires.0.cells) (omega arith)).offset
 
 pub slice_bounds-out-count : goal.slice_bounds-out-count
-slice_bounds-out-count c = ((cell_lent c.loop-j.j c.args.s.dc 3 c.loop-j-test.true (few_carriers c.args.s c.requires.0.cells) (omega arith))).forward
+slice_bounds-out-count c = (cell_lent c.loop-j.j c.args.s.dc 3 c.loop-j-test.true (few_carriers c.args.s c.requires.0.cells) (omega arith)).forward
 
 pub slice_bounds-out-start : goal.slice_bounds-out-start
-slice_bounds-out-start c = ((cell_lent c.loop-j.j c.args.s.dc 3 c.loop-j-test.true (few_carriers c.args.s c.requires.0.cells) (omega arith))).forward
+slice_bounds-out-start c = (cell_lent c.loop-j.j c.args.s.dc 3 c.loop-j-test.true (few_carriers c.args.s c.requires.0.cells) (omega arith)).forward
 
 pub slice_bounds-out-end : goal.slice_bounds-out-end
 slice_bounds-out-end c = (row_inside c.loop-j.j c.args.s.dc 3 c.args.row.now c.loop-j.row c.loop-j-test.true c.requires.2 c.loop-j.invariant.1)

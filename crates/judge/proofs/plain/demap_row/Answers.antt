@@ -15,19 +15,19 @@ pub loop-j-init : goal.loop-j-init
 loop-j-init c = (omega arith, refl, cat-none c.args.bps _ _)
 
 pub overflow_mul-at : goal.overflow_mul-at
-overflow_mul-at c = ((cell_lent c.loop-j.j c.args.s.dc c.args.bps c.loop-j-test.true (few_carriers c.args.s c.requires.0) c.requires.1.bits)).from
+overflow_mul-at c = (cell_lent c.loop-j.j c.args.s.dc c.args.bps c.loop-j-test.true (few_carriers c.args.s c.requires.0) c.requires.1.bits).from
 
 pub overflow_add-stretch : goal.overflow_add-stretch
-overflow_add-stretch c = ((cell_lent c.loop-j.j c.args.s.dc c.args.bps c.loop-j-test.true (few_carriers c.args.s c.requires.0) c.requires.1.bits)).to
+overflow_add-stretch c = (cell_lent c.loop-j.j c.args.s.dc c.args.bps c.loop-j-test.true (few_carriers c.args.s c.requires.0) c.requires.1.bits).to
 
 pub offset_bounds-out-at : goal.offset_bounds-out-at
-offset_bounds-out-at c = ((cell_lent c.loop-j.j c.args.s.dc c.args.bps c.loop-j-test.true (few_carriers c.args.s c.requires.0) c.requires.1.bits)).offset
+offset_bounds-out-at c = (cell_lent c.loop-j.j c.args.s.dc c.args.bps c.loop-j-test.true (few_carriers c.args.s c.requires.0) c.requires.1.bits).offset
 
 pub slice_bounds-stretch-count : goal.slice_bounds-stretch-count
-slice_bounds-stretch-count c = ((cell_lent c.loop-j.j c.args.s.dc c.args.bps c.loop-j-test.true (few_carriers c.args.s c.requires.0) c.requires.1.bits)).forward
+slice_bounds-stretch-count c = (cell_lent c.loop-j.j c.args.s.dc c.args.bps c.loop-j-test.true (few_carriers c.args.s c.requires.0) c.requires.1.bits).forward
 
 pub slice_bounds-stretch-start : goal.slice_bounds-stretch-start
-slice_bounds-stretch-start c = ((cell_lent c.loop-j.j c.args.s.dc c.args.bps c.loop-j-test.true (few_carriers c.args.s c.requires.0) c.requires.1.bits)).forward
+slice_bounds-stretch-start c = (cell_lent c.loop-j.j c.args.s.dc c.args.bps c.loop-j-test.true (few_carriers c.args.s c.requires.0) c.requires.1.bits).forward
 
 pub slice_bounds-stretch-end : goal.slice_bounds-stretch-end
 slice_bounds-stretch-end c = (row_inside c.loop-j.j c.args.s.dc c.args.bps c.args.out.now c.loop-j.out c.loop-j-test.true c.requires.3 c.loop-j.invariant.1)

@@ -20,7 +20,7 @@ bounds-h-j-in-loop-j c = simp length-set (omega (arith, (let h : 2 * c.loop-j.j 
 pub loop-j-preserved : goal.loop-j-preserved
 loop-j-preserved c =
     let a = c.args in
-    (omega arith, simp length-set c.loop-j.invariant.1, pairs_step (mean_at a.row.now) c.loop-j.j a.h.now c.loop-j.h _ ((let h : 2 * c.loop-j.j + 2 ≤ length c.loop-j.h = omega (arith, c.requires.2, c.loop-j.invariant.1) in h)) c.loop-j.invariant.2 refl)
+    (omega arith, simp length-set c.loop-j.invariant.1, pairs_step (mean_at a.row.now) c.loop-j.j a.h.now c.loop-j.h _ (let h : 2 * c.loop-j.j + 2 ≤ length c.loop-j.h = omega (arith, c.requires.2, c.loop-j.invariant.1) in h) c.loop-j.invariant.2 refl)
 
 pub shape_of-h : goal.shape_of-h
 shape_of-h c = c.loop-j.invariant.1

@@ -29,7 +29,7 @@ bounds-y-j-in-loop-j c = simp length-set (omega (arith, (let h : 2 * c.loop-j.j 
 
 pub loop-j-preserved : goal.loop-j-preserved
 loop-j-preserved c =
-    (omega arith, simp length-set c.loop-j.invariant.1, pairs_step (λ (k : ℕ). sample_of c.args.s c.args.grid.now (c.args.t * c.args.s.dc + k)) c.loop-j.j c.args.y.now c.loop-j.y _ ((let h : 2 * c.loop-j.j + 2 ≤ length c.loop-j.y = omega (arith, c.requires.3, c.loop-j.invariant.1) in h)) c.loop-j.invariant.2 c.sample_of-x.ensures)
+    (omega arith, simp length-set c.loop-j.invariant.1, pairs_step (λ (k : ℕ). sample_of c.args.s c.args.grid.now (c.args.t * c.args.s.dc + k)) c.loop-j.j c.args.y.now c.loop-j.y _ (let h : 2 * c.loop-j.j + 2 ≤ length c.loop-j.y = omega (arith, c.requires.3, c.loop-j.invariant.1) in h) c.loop-j.invariant.2 c.sample_of-x.ensures)
 
 pub returns : goal.returns
 unfolding ya

@@ -10,13 +10,13 @@ use Rattle.load.proofs.Marks.{marks, first_within, mark_within}
 use Rattle.load.proofs.rows.load.Goals as goal
 
 pub overflow_mul-at : goal.overflow_mul-at
-overflow_mul-at c = ((marks c.args.s c.args.s.ng c.requires.0.symbols c.requires.0.map.few (le_refl c.args.s.ng))).all
+overflow_mul-at c = (marks c.args.s c.args.s.ng c.requires.0.symbols c.requires.0.map.few (le_refl c.args.s.ng)).all
 
 pub overflow_mul-at-2 : goal.overflow_mul-at-2
-overflow_mul-at-2 c = ((marks c.args.s c.args.s.ng c.requires.0.symbols c.requires.0.map.few (le_refl c.args.s.ng))).first
+overflow_mul-at-2 c = (marks c.args.s c.args.s.ng c.requires.0.symbols c.requires.0.map.few (le_refl c.args.s.ng)).first
 
 pub offset_bounds-w-at : goal.offset_bounds-w-at
-offset_bounds-w-at c = ((marks c.args.s c.args.s.ng c.requires.0.symbols c.requires.0.map.few (le_refl c.args.s.ng))).first_offset
+offset_bounds-w-at c = (marks c.args.s c.args.s.ng c.requires.0.symbols c.requires.0.map.few (le_refl c.args.s.ng)).first_offset
 
 pub bounds-w-at : goal.bounds-w-at
 bounds-w-at c = first_within c.args.s c.requires.1.long_w
@@ -40,10 +40,10 @@ loop-g-preserved c =
     (turn_more c.loop-g-test.true, room_kept kw kp i.1, kw ∙ i.2, kp ∙ i.3, c.row.ensures)
 
 pub overflow_add-result : goal.overflow_add-result
-overflow_add-result c = ((marks c.args.s c.args.s.ng c.requires.0.symbols c.requires.0.map.few (le_refl c.args.s.ng))).mark
+overflow_add-result c = (marks c.args.s c.args.s.ng c.requires.0.symbols c.requires.0.map.few (le_refl c.args.s.ng)).mark
 
 pub offset_bounds-w-at-2 : goal.offset_bounds-w-at-2
-offset_bounds-w-at-2 c = ((marks c.args.s c.args.s.ng c.requires.0.symbols c.requires.0.map.few (le_refl c.args.s.ng))).offset
+offset_bounds-w-at-2 c = (marks c.args.s c.args.s.ng c.requires.0.symbols c.requires.0.map.few (le_refl c.args.s.ng)).offset
 
 pub bounds-w-at-2 : goal.bounds-w-at-2
 bounds-w-at-2 c = let s = c.args.s in mark_within s c.loop-g.invariant.1.long_w (le_refl s.ng)

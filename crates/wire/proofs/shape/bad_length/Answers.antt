@@ -11,13 +11,13 @@ pub sizes_of-z-requires : goal.sizes_of-z-requires
 sizes_of-z-requires c = c.requires.1
 
 pub overflow_add-count : goal.overflow_add-count
-overflow_add-count c = omega (arith, ((let h : Small c.sizes_of-z.result = rw c.sizes_of-z.ensures (small_sizes c.args.f c.requires.1) in h)).carriers)
+overflow_add-count c = omega (arith, (let h : Small c.sizes_of-z.result = rw c.sizes_of-z.ensures (small_sizes c.args.f c.requires.1) in h).carriers)
 
 pub overflow_add-count-2 : goal.overflow_add-count-2
 overflow_add-count-2 c = let z = (let h : Small c.sizes_of-z.result = rw c.sizes_of-z.ensures (small_sizes c.args.f c.requires.1) in h) in omega (arith, z.carriers, z.cells)
 
 pub overflow_mul-count : goal.overflow_mul-count
-overflow_mul-count c = omega (arith, ((let h : Small c.sizes_of-z.result = rw c.sizes_of-z.ensures (small_sizes c.args.f c.requires.1) in h)).grid)
+overflow_mul-count c = omega (arith, (let h : Small c.sizes_of-z.result = rw c.sizes_of-z.ensures (small_sizes c.args.f c.requires.1) in h).grid)
 
 pub overflow_add-count-3 : goal.overflow_add-count-3
 overflow_add-count-3 c = let z = (let h : Small c.sizes_of-z.result = rw c.sizes_of-z.ensures (small_sizes c.args.f c.requires.1) in h) in omega (arith, z.carriers, z.cells, z.grid)
