@@ -1,4 +1,4 @@
--- Where the search for the step starts: 0.61803398875 n is above 0 and at most n, twice it is exact, and so the code rounds it as `roundHalf` does.
+-- Where the search for the step starts: 0.61803398875 n is above 0 and at most n, twice it is exact, and so the code rounds it as `round_half` does.
 use Rattle.std.proofs.Common.{◌≡◌, ℕ, zero, suc, ◌+◌, ◌-◌, ◌*◌, ◌/◌, ◌%◌, ◌^◌, ◌<◌, ◌≤◌, true, false, ◌&&◌, T, eqb, ltb, leb, ℤ, pos, negsuc, sym, refl, ap, ◌∙◌, true≢false, le_trans, le_of_eq, lt_of_le_of_lt, mul-le-mul_right, mul_assoc, mul_comm, div-lt_iff_lt-mul, add-mul, mul-lt-mul_of_pos_right, lt_of_not-le, mul-one, mul_right_comm, not-le_of_lt, le_of_mul-le-mul_right, mul_left_comm, arith, lit<, ltb→lt, lt→ltb, leb→le, pow-add}
 use native.Mathlib.Nat.{min-eq_left, div-le_of_le-mul, add-div_right, div-div-eq-div-mul}
 use lib.Pow.{pow-lt}

@@ -1,4 +1,4 @@
--- `fdeOf` writes m complex numbers, and reads no more than m of each list.
+-- `fde_of` writes m complex numbers, and reads no more than m of each list.
 use Prim.Native.Nat.{ℕ, ◌*◌}
 use mathlib.Core.Path.{◌≡◌, ap, ap₂}
 use mathlib.Core.List.{List}

@@ -1,4 +1,4 @@
--- `sicOf` writes m complex numbers, and reads no more than m of each list.
+-- `sic_of` writes m complex numbers, and reads no more than m of each list.
 use Prim.Native.Nat.{ℕ, ◌*◌}
 use mathlib.Core.Path.{◌≡◌, refl, ap, ap₂}
 use mathlib.Core.List.{List}

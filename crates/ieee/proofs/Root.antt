@@ -124,7 +124,7 @@ test_gt S q x X h =
     lt_of_le_of_lt (le_of_eq (mul-mul-mul_comm (2 * q + 1) x (2 * q + 1) x))
     (lt_of_lt_of_le (mul-lt-mul_of_pos_right (half_gt S q h) (mul-pos X X)) (le_of_eq (sym (left_side S x))))
 
--- the rounding that `rootOf` does, at a square that is S * x * x
+-- the rounding that `root_of` does, at a square that is S * x * x
 pick : (S q x r : ℕ) → 0 < x → 0 < q → IsRoot S q → Near S r → nearest q (compare (4 * (S * (x * x))) ((2 * q + 1) * x * ((2 * q + 1) * x))) ≡ r
 pick S q x r X Q h n = go (ltb (q * q + q) S) (ltb→lt (q * q + q) S) (nltb→le (q * q + q) S)
   where

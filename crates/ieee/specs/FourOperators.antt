@@ -19,7 +19,7 @@ module _ (f : Format) (◌⊕◌ ◌⊖◌ ◌⊗◌ ◌⊘◌ : Float → Float
   infixl 6 ◌⊕◌ ◌⊖◌
   infixl 7 ◌⊗◌ ◌⊘◌
   -- x - y is the sum with y's sign changed, and x / y is for a y that is not 0
-  pub record Operators (x y : Float) : Type 0 where
+  pub record Rounded (x y : Float) : Type 0 where
     pub sum : Sum f (sign x) (num x * den y) (sign y) (num y * den x) (den x * den y) (x ⊕ y)
     pub difference : Sum f (sign x) (num x * den y) (not (sign y)) (num y * den x) (den x * den y) (x ⊖ y)
     pub product : TiesToEven f (unlike (sign x) (sign y)) (num x * num y) (den x * den y) (x ⊗ y)
@@ -27,7 +27,7 @@ module _ (f : Format) (◌⊕◌ ◌⊖◌ ◌⊗◌ ◌⊘◌ : Float → Float
 
 unfoldable pub FourRound : Type 0
 FourRound =
-    (f : Format) (x y : Float) → T (finite x) → T (finite y) → Operators f (add f) (sub f) (mul f) (div f) x y
+    (f : Format) (x y : Float) → T (finite x) → T (finite y) → Rounded f (add f) (sub f) (mul f) (div f) x y
 
 -- |z| / 1 with z's sign; 0 gives +0
 unfoldable pub IntegersRound : Type 0

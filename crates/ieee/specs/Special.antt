@@ -6,7 +6,7 @@ use Rattle.std.specs.Float.Ieee.{unlike, add, sub, mul, div, is_nan}
 use Rattle.std.specs.Float.Ieee.Scale.{finite}
 use Rattle.std.specs.Float.Ieee.Positive.{num}
 use Rattle.ieee.specs.Nearest.{sign}
-use Rattle.ieee.specs.FourOperators.{Operators}
+use Rattle.ieee.specs.FourOperators.{Rounded}
 use Rattle.ieee.specs.Narrow.{narrowed}
 use Rattle.ieee.specs.Root.{rooted}
 
@@ -52,7 +52,7 @@ module _ (◌⊕◌ ◌⊖◌ ◌⊗◌ ◌⊘◌ : Float → Float → Float) w
     pub quotient : (x y : Float) → SomeNan x y → x ⊘ y ≡ nan
 
   pub record Arithmetic (f : Format) : Type 0 where
-    pub rounded : (x y : Float) → T (finite x) → T (finite y) → Operators f ◌⊕◌ ◌⊖◌ ◌⊗◌ ◌⊘◌ x y
+    pub rounded : (x y : Float) → T (finite x) → T (finite y) → Rounded f ◌⊕◌ ◌⊖◌ ◌⊗◌ ◌⊘◌ x y
     pub infinities : Infinities
     pub invalid : Invalid
     pub nans : Nans

@@ -25,7 +25,7 @@ carrier_of s cell = data_carrier s.map (symbol_of s cell) (cell % s.dc)
 abbrev pub sample_of : Source → List Float → ℕ → Complex
 sample_of s grid cell = sample_at grid (symbol_of s cell * s.map.nc + carrier_of s cell)
 
--- of `softAt`, which finds nothing known
+-- of `soft_at`, which finds nothing known
 abbrev pub is_some : Found → Bool
 is_some (Known x v) = true
 is_some (Soft x v) = true

@@ -1,4 +1,4 @@
-// The leaf functions under C names, for the comparison with the Rust. None has a `requires`: each says what it answers to anything.
+// The leaf functions for the comparison with the Rust, which `probes_c` exports. None has a `requires`: each says what it answers to anything.
 #![tactic(auto)]
 
 mod cells;

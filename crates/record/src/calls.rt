@@ -1,4 +1,4 @@
-// The C interface: a slice is passed as its pointer and its length.
+// The calls on a record: its answer, its answer with the channel, its bits.
 ghost use Rattle.std.specs.Prelude.{◌≡◌, ◌≤◌, length};
 ghost use Rattle.wire.specs.Shape.{shape_refusal, bits_of, answer_length, channel_length};
 ghost use Rattle.record.specs.Answer.{Answers, AnswersBoth};

@@ -1,4 +1,4 @@
-// The C interface on the burst record of document 01.
+// What is answered to the bytes of a burst record of document 01; `record_c` exports it.
 #![tactic(auto)]
 
 mod calls;
