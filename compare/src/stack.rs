@@ -66,8 +66,8 @@ const ENTRIES: [(&str, usize); 5] = [
     ("single estimate", 160 << 10),
     ("channel_power", 16 << 10),
     ("refine", 64 << 10),
-    ("refine_record", 180_000),
-    ("refine_record_channel", 180_000),
+    ("refine_record", 184_000),
+    ("refine_record_channel", 184_000),
 ];
 
 /// The most of each entry: bursts of every shape, of each number of symbols; then records.
