@@ -3,10 +3,11 @@ ghost use Rattle.std.specs.Prelude.{◌≡◌};
 ghost use Rattle.refine.specs.Refine.{burst};
 ghost use Rattle.asides.specs.Told.{report_of, ProbedRefinement};
 
-use phy::{Refinement, cause_number};
-use refine::Settings;
+use cause::Cause;
+use refine::{BurstGrid, Refined, Settings};
 
 // 0, both indices of the model, how many likelihoods are not a number, and the scale; or the cause's number and zeros.
+// The number stands beside them, since the C interface needs it.
 #[repr(C)]
 #[derive(Clone, Copy)]
 pub struct Report {
@@ -17,18 +18,18 @@ pub struct Report {
     pub scale: f32,
 }
 
-fn refinement_told(r: Refinement) -> Report
-    ensures { result ≡ report_of r }
+fn report_of(answer: Result<Refined, Cause>) -> Report
+    ensures { result ≡ report_of answer }
 {
-    match r {
-        Refinement::Refused(cause) => Report {
-            number: cause_number(cause),
+    match answer {
+        Err(cause) => Report {
+            number: u32::from(cause),
             fd: 0,
             tm: 0,
             spoilt: 0,
             scale: 0.0,
         },
-        Refinement::Accepted(m) => Report {
+        Ok(m) => Report {
             number: 0,
             fd: m.fd,
             tm: m.tm,
@@ -53,5 +54,11 @@ pub extern "C" fn probe_refine(
     ensures { ProbedRefinement (burst s grid.now sigma.now cells.now) prior.now
         answer.old answer.new channel.old channel.new wf.old wf.new wu.old wu.new result }
 {
-    refinement_told(phy::refine(s, grid, sigma, cells, prior, answer, channel, wf, wu))
+    let b = BurstGrid {
+        settings: s,
+        grid,
+        sigma,
+        cells,
+    };
+    report_of(phy::refine(&b, prior, answer, channel, wf, wu))
 }

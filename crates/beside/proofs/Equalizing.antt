@@ -1,7 +1,7 @@
 -- The ways in which a call of `fde` ends, and what is known of lists that fit. Assumes nothing.
 use Prim.Native.Nat.{ℕ, ◌*◌, ◌≤◌}
 use mathlib.Core.Path.{◌≡◌, refl, sym, ap, ◌∙◌}
-use mathlib.Core.Bool.{true, false, not}
+use mathlib.Core.Bool.{false, not}
 use mathlib.Core.List.{List, ◌++◌, append-nil}
 use native.Mathlib.Omega.{arith}
 use lib.Dec.{ltb, eqb}
@@ -14,9 +14,8 @@ use Rattle.equalize.specs.Answer.{Room}
 use Rattle.equalize.specs.Answer as core
 use Rattle.equalize.specs.Fde.{fde_of}
 use Rattle.scan.proofs.Tests.{neither}
-use Rattle.beside.specs.declared.equalization.Equalization.{Equalization}
-use Rattle.beside.specs.declared.equalization.Equalization.TheVariants.{Accepted, Lengths, Numbers}
-use Rattle.beside.specs.Equalizations.{number_of, bad_lengths, bad_numbers, refusal_of, equalized, Equalizing}
+use Rattle.std.specs.Prelude.{Ok}
+use Rattle.beside.specs.Equalizations.{bad_lengths, bad_numbers, refusal_of, equalized, Equalizing}
 
 pub record Fits (y h m z : ℕ) : Type 0 where
   pub some : 1 ≤ m
@@ -42,13 +41,6 @@ fits y h m z e =
     }
 
 module _ (y h v : List Float) (gain : Float) (z : List Float) where
-  turned : (r : Equalization) → 1 ≤ number_of r → number_of r ≡ refusal_of y h v gain z → Equalizing y h v gain r z z
-  turned r n e = record { number = e; accepted = λ q. absurd (omega (arith, n, e ∙ q)); refused = λ q. refl }
-
-  pub unequal : true ≡ bad_lengths (length y) (length h) (length v) (length z) → Equalizing y h v gain Lengths z z
-  unfolding refusal_of
-  unequal e = turned Lengths (omega arith) (rw (← e) refl)
-
   module _ (fine : false ≡ bad_lengths (length y) (length h) (length v) (length z)) where
     f : Fits (length y) (length h) (length v) (length z)
     f = fits _ _ _ _ (sym fine)
@@ -59,12 +51,8 @@ module _ (y h v : List Float) (gain : Float) (z : List Float) where
     pub some : (1 ≤ length v) × (length v ≤ 109)
     some = (f.some, f.most)
 
-    pub not_finite : true ≡ bad_numbers y h v gain → Equalizing y h v gain Numbers z z
-    unfolding refusal_of
-    not_finite e = turned Numbers (omega arith) (rw (← fine, ← e) refl)
-
     pub made : false ≡ bad_numbers y h v gain → (r : Equalized) (z₁ : List Float) (tw : List Float) → tw ≡ twiddles_of (length v)
-        → core.Equalizes (length v) (fde_of (length v) tw y h v gain) r z z₁ → Equalizing y h v gain (Accepted r) z z₁
+        → core.Equalizes (length v) (fde_of (length v) tw y h v gain) r z z₁ → Equalizing y h v gain (Ok r) z z₁
     unfolding refusal_of equalized
     made e r z₁ tw et c =
         let n : 0 ≡ refusal_of y h v gain z = rw (← fine, ← e) refl in
@@ -72,6 +60,6 @@ module _ (y h v : List Float) (gain : Float) (z : List Float) where
         let whole : z₁ ≡ a.z = c.symbols ∙ (ap (λ (l : List Float). a.z ++ l) (drop_of_length-le z {i = 2 * length v} (omega (arith, f.in_z))) ∙ append-nil a.z) in
         record {
           number = n;
-          accepted = λ q. record { result = ap Accepted (rw et at c.result); symbols = rw et at whole };
+          accepted = λ q. record { result = ap Ok (rw et at c.result); symbols = rw et at whole };
           refused = λ q. absurd (q (sym n));
         }

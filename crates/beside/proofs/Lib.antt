@@ -1,3 +1,2 @@
 -- Laws of the definitions, for the proofs here.
-mod Deciding
 mod Equalizing

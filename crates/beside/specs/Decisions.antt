@@ -1,16 +1,11 @@
 -- What a call of `decide` gives: the number by part 10, and the point where none turned it away.
-use Rattle.std.specs.Prelude.{ℕ, ◌≡◌, Bool, not, cond, ◌&&◌, ◌||◌, ltb}
+use Rattle.std.specs.Prelude.{ℕ, ◌≡◌, Result, Ok, Bool, not, cond, ◌&&◌, ◌||◌, ltb}
 use Rattle.ieee.specs.Order.{is_finite}
 use Rattle.dsp.specs.declared.Complex.{Complex}
 use Rattle.points.specs.Constellation.{points_of}
 use Rattle.demap.specs.Decide.{decide_of}
-use Rattle.beside.specs.declared.decision.Decision.{Decision}
-use Rattle.beside.specs.declared.decision.Decision.TheVariants.{Accepted, Code, Numbers}
-
-abbrev pub number_of : Decision → ℕ
-number_of (Accepted x) = 0
-number_of Code = 2
-number_of Numbers = 7
+use Rattle.cause.specs.declared.Cause.{Cause}
+use Rattle.cause.specs.Causes.{number_of}
 
 unfoldable pub isFiniteᶜ : Complex → Bool
 isFiniteᶜ x = is_finite x.re && is_finite x.im
@@ -24,6 +19,6 @@ module _ (code : ℕ) (y h : Complex) where
   unfoldable pub point_for : Complex
   point_for = decide_of y h (points_of code).pts (points_of code).bps
 
-  pub record Decides (r : Decision) : Type 0 where
+  pub record Decides (r : Result Complex Cause) : Type 0 where
     pub number : number_of r ≡ refusal_of
-    pub point : refusal_of ≡ 0 → r ≡ Accepted point_for
+    pub point : refusal_of ≡ 0 → r ≡ Ok point_for

@@ -1,18 +1,13 @@
 -- What a call of `fde` gives: the number by part 10, and either est.rs's values or the written list as it was.
-use Rattle.std.specs.Prelude.{ℕ, ◌*◌, ◌≡◌, Bool, not, cond, ◌||◌, List, ltb, eqb, length, Float}
+use Rattle.std.specs.Prelude.{ℕ, ◌*◌, ◌≡◌, Result, Ok, Bool, not, cond, ◌||◌, List, ltb, eqb, length, Float}
 use Rattle.ieee.specs.Order.{is_finite}
 use Rattle.spread.specs.Spreader.{twiddles_of}
 use Rattle.equalize.specs.declared.filter.Equalized.{Equalized}
 use Rattle.equalize.specs.Answer.{Answer}
 use Rattle.equalize.specs.Fde.{fde_of}
 use Rattle.scan.specs.Fine.{all, is_variance}
-use Rattle.beside.specs.declared.equalization.Equalization.{Equalization}
-use Rattle.beside.specs.declared.equalization.Equalization.TheVariants.{Accepted, Lengths, Numbers}
-
-abbrev pub number_of : Equalization → ℕ
-number_of (Accepted result) = 0
-number_of Lengths = 5
-number_of Numbers = 7
+use Rattle.cause.specs.declared.Cause.{Cause}
+use Rattle.cause.specs.Causes.{number_of}
 
 -- y, h and z have not the m complex numbers that v has variances for, m being 0 or over 109
 unfoldable pub bad_lengths : (y h m z : ℕ) → Bool
@@ -30,12 +25,12 @@ module _ (y h v : List Float) (gain : Float) where
   unfoldable pub equalized : Answer Equalized
   equalized = fde_of (length v) (twiddles_of (length v)) y h v gain
 
-  pub record Equalizes (r : Equalization) (z₁ : List Float) : Type 0 where
-    pub result : r ≡ Accepted equalized.result
+  pub record Equalizes (r : Result Equalized Cause) (z₁ : List Float) : Type 0 where
+    pub result : r ≡ Ok equalized.result
     pub symbols : z₁ ≡ equalized.z
 
   -- z before and after
-  pub record Equalizing (r : Equalization) (z₀ z₁ : List Float) : Type 0 where
+  pub record Equalizing (r : Result Equalized Cause) (z₀ z₁ : List Float) : Type 0 where
     pub number : number_of r ≡ refusal_of z₀
     pub accepted : refusal_of z₀ ≡ 0 → Equalizes r z₁
     pub refused : (refusal_of z₀ ≡ 0 → ⊥) → z₁ ≡ z₀

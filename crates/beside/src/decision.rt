@@ -2,39 +2,25 @@
 ghost use Rattle.std.specs.Prelude.{◌≡◌};
 ghost use Rattle.beside.specs.Decisions.{isFiniteᶜ, Decides};
 
+use cause::Cause;
 use dsp::Complex;
-
-// The point, or a code above 3, or a number that is not finite.
-#[derive(Clone, Copy)]
-pub enum Decision {
-    Accepted(Complex),
-    Code,
-    Numbers,
-}
 
 fn is_finite(x: Complex) -> bool
     ensures { result ≡ isFiniteᶜ x }
 {
-    if ieee::is_finite32(x.re) {
-        return ieee::is_finite32(x.im);
-    }
-    false
+    ieee::is_finite(x.re) && ieee::is_finite(x.im)
 }
 
-// The unit point nearest to y / h.
-pub fn decide(code: u32, y: Complex, h: Complex) -> Decision
+// The unit point nearest to y / h; refused are a code above 3 and a number that is not finite.
+#[tactic(auto, unfolding(crate::specs::Decisions::refusal_of, crate::specs::Decisions::point_for))]
+pub fn decide(code: u32, y: Complex, h: Complex) -> Result<Complex, Cause>
     ensures { Decides code y h result }
 {
     if code > 3 {
-        return Decision::Code;
+        return Err(Cause::Codes);
     }
-    if !is_finite(y) {
-        return Decision::Numbers;
+    if !is_finite(y) || !is_finite(h) {
+        return Err(Cause::Numbers);
     }
-    if !is_finite(h) {
-        return Decision::Numbers;
-    }
-    let p = points::points(code);
-    let pts = p.pts;
-    Decision::Accepted(demap::decide(y, h, &pts, p.bps))
+    Ok(demap::decide(y, h, &points::points(code)))
 }

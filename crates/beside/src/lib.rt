@@ -4,5 +4,5 @@
 mod decision;
 mod equalization;
 
-pub use decision::{Decision, decide};
-pub use equalization::{Equalization, fde};
+pub use decision::decide;
+pub use equalization::fde;

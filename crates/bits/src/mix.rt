@@ -11,10 +11,11 @@ pub const SEED_HDR: u32 = 0x6573_4844;
 pub fn wrapping_mul(a: u32, b: u32) -> u32
     ensures { result ≡ a * b % 2 ^ 32 }
 {
-    ((a as u64) * (b as u64) % 4294967296) as u32
+    a.wrapping_mul(b)
 }
 
 // frame.rs `mix32`.
+#[tactic(auto, unfolding(crate::specs::Mix::mix_of))]
 pub fn mix32(x: u32) -> u32
     ensures { result ≡ mix_of x }
 {
@@ -26,6 +27,7 @@ pub fn mix32(x: u32) -> u32
 }
 
 // frame.rs `scramble`: bit i of stream `seed`.
+#[tactic(auto, unfolding(crate::specs::Mix::scramble_of))]
 pub fn scramble(seed: u32, i: u32) -> u32
     ensures { result ≡ scramble_of seed i }
 {
@@ -33,6 +35,7 @@ pub fn scramble(seed: u32, i: u32) -> u32
 }
 
 // The number of data bit i, negated where the stream has a 1, as `refine` scrambles and unscrambles.
+#[tactic(auto, unfolding(crate::specs::Mix::signed))]
 pub fn sign(i: usize, v: f32) -> f32
     requires { i < 2 ^ 32 }
     ensures { result ≡ signed i v }

@@ -22,11 +22,11 @@ pub fn slot(n: usize, i: usize) -> usize
     slot_by(interleave_step(n), n, i)
 }
 
-// `s.get(i).copied().unwrap_or(0.0)`.
+// The number at i, or 0 where there is none.
 pub fn value_at(s: &[f32], i: usize) -> f32
     ensures { result ≡ slice_index_or s.now i nought }
 {
-    if i < s.len() { s[i] } else { 0.0 }
+    s.get(i).copied().unwrap_or(0.0)
 }
 
 // The n priors, scrambled, each at its slot; what `out` has past them stays.
@@ -35,24 +35,21 @@ pub fn to_slots(prior: &[f32], n: usize, out: &mut [f32])
     ensures { out.new ≡ slot_priors n prior.now ++ drop n out.old }
 {
     let a = interleave_step(n);
-    let mut i = 0;
-    while i < n {
+    for i in 0..n {
         let s = slot_by(a, n, i);
         out[s] = sign(i, value_at(prior, i));
-        i += 1;
     }
 }
 
-// The n numbers in bit order, unscrambled; what `out` has past them stays.
+// The n numbers in bit order, unscrambled; what `out` has past them stays. Its walk is not `to_slots`'s: that writes at the slot and reads at
+// the bit, this the other way about, and one function for both would ask for each place by a closure of its own.
 pub fn from_slots(slots: &[f32], n: usize, out: &mut [f32])
     requires { (0 < n) × (n ≤ longest) × (n ≤ length slots.now) × (n ≤ length out.old) }
     ensures { out.new ≡ bit_order n slots.now ++ drop n out.old }
 {
     let a = interleave_step(n);
-    let mut i = 0;
-    while i < n {
+    for i in 0..n {
         let s = slot_by(a, n, i);
         out[i] = sign(i, slots[s]);
-        i += 1;
     }
 }

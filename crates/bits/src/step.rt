@@ -3,6 +3,7 @@ ghost use Rattle.std.specs.Prelude.{◌≡◌, ◌^◌, ◌<◌, ◌≤◌};
 ghost use Rattle.bits.specs.Step.{gcd as gcd_of, start_of, step_of};
 
 // frame.rs `gcd`.
+#[tactic(auto, using(crate::proofs::Divisors::gcd_step, crate::proofs::Divisors::gcd_end))]
 fn gcd(a: usize, b: usize) -> usize
     ensures { result ≡ gcd_of a b }
 {
@@ -35,6 +36,7 @@ pub fn interleave_step(n: usize) -> usize
         return 1;
     }
     let mut a = start(n);
+    // A search with no end in sight stays a loop: `(a..).find(..)` would answer an Option that is never None.
     while gcd(a, n) != 1 {
         a += 1;
     }

@@ -1,7 +1,6 @@
 -- Laws of the definitions.
-pub mod Putting
-pub mod Decimals
-pub mod Lengths
+pub mod Formatted
+pub mod Appended
 pub mod Reading
 pub mod Accepted
 pub mod Printing

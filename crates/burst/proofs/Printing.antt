@@ -3,7 +3,6 @@ use Prim.Native.Nat.{ℕ, ◌+◌, ◌*◌, ◌<◌}
 use mathlib.Core.Path.{◌≡◌, refl, sym, ap, ◌∙◌}
 use mathlib.Core.Bool.{true}
 use mathlib.Core.List.{List, ◌++◌, append_assoc}
-use native.Mathlib.Nat.{zero-add}
 use native.Mathlib.Omega.{arith}
 use borrow.Author.Tests.{eq-eqb, ne_eqb}
 use lib.ListN.{length, drop, get_or}
@@ -18,8 +17,7 @@ use Rattle.wire.specs.Shape.{bits_of, answer_length}
 use Rattle.record.specs.Refusals.{refusal_in}
 use Rattle.wire.specs.Bytes.{report_bytes, number_bytes}
 use Rattle.record.specs.Answer.{answer_bytes, Answers}
-use Rattle.burst.specs.Text.{put, Puts}
-use Rattle.burst.specs.Lines.{line_of, heading, likelihood_lines, refused_of, answer_lines, lines_of, Printed}
+use Rattle.burst.specs.Lines.{line_of, heading, likelihood_lines, refused_of, answer_lines, lines_of}
 use Rattle.burst.proofs.Reading.{word_past, word_of}
 use Rattle.burst.proofs.Accepted.{room_enough, bits_of_lem}
 
@@ -72,26 +70,16 @@ module _ (rec : List ℕ) where
   unfolding lines_of
   refused_lines h = rw (ne_eqb (refusal_in rec true) 0 h) refl
 
-  printed : (bytes text text' : List ℕ) (r : ℕ) → bytes ≡ lines_of rec → Puts bytes text 0 r text' → Printed rec r text text'
-  unfolding put
-  printed bytes text text' r e p =
-      record {
-        count = p.after ∙ (zero-add (length bytes) ∙ ap length e);
-        lines = p.now ∙ (ap (λ (k : ℕ). bytes ++ drop k text) (zero-add (length bytes)) ∙ ap (λ (l : List ℕ). l ++ drop (length l) text) e);
-      }
-
 -- ---- the two ways that `lines` ends
 
-module _ (rec : List ℕ) (q : ℕ) (out₀ out₁ text text' : List ℕ) (r : ℕ) (room : length out₀ ≡ 16354) (a : Answers rec q out₀ out₁) where
+module _ (rec : List ℕ) (q : ℕ) (out₀ out₁ : List ℕ) (room : length out₀ ≡ 16354) (a : Answers rec q out₀ out₁) where
   refusal : q ≡ refusal_in rec true
   refusal = a.result ∙ (ap (λ (k : ℕ). refusal_in rec (leb (answer_length rec) k)) room ∙ room_enough rec)
 
-  pub print_refused : (q ≡ 0 → ⊥) → Puts (refused_of q) text 0 r text' → Printed rec r text text'
-  print_refused h p = printed rec (refused_of q) text text' r (ap refused_of refusal ∙ refused_lines rec (λ e. h (refusal ∙ e))) p
+  pub print_refused : (q ≡ 0 → ⊥) → refused_of q ≡ lines_of rec
+  print_refused h = ap refused_of refusal ∙ refused_lines rec (λ e. h (refusal ∙ e))
 
-  pub print_answer : (n : ℕ) → n ≡ bits_of rec → q ≡ 0 → Puts (answer_lines out₁ n) text 0 r text' → Printed rec r text text'
-  print_answer n e h p =
+  pub print_answer : (n : ℕ) → n ≡ bits_of rec → q ≡ 0 → answer_lines out₁ n ≡ lines_of rec
+  print_answer n e h =
       let z : refusal_in rec true ≡ 0 = sym refusal ∙ h in
-      printed rec (answer_lines out₁ n) text text' r
-      (ap (answer_lines out₁) (e ∙ bits_of_lem rec true z) ∙ accepted_lines rec (drop (answer_length rec) out₀) out₁ (a.accepted h) z)
-      p
+      ap (answer_lines out₁) (e ∙ bits_of_lem rec true z) ∙ accepted_lines rec (drop (answer_length rec) out₀) out₁ (a.accepted h) z

@@ -1,10 +1,10 @@
 -- What is written is the lines of what was read. Assumes nothing.
-use Rattle.std.proofs.Common.{◌≡◌, ℕ, ◌<◌, true, List, length, take, drop, None, Some, Result, Ok, Err, IfSome, OnOk, arith, refl, sym, ap, ◌∙◌, subst, length-take-le, take_at, take_all, lt-ltb, le-ltb}
+use Rattle.std.proofs.Common.{◌≡◌, ℕ, ◌<◌, true, List, length, take, None, Some, Result, Ok, Err, IfSome, OnOk, arith, refl, sym, ap, ◌∙◌, subst, length-take-le, take_all, lt-ltb, le-ltb}
 use Rattle.std.specs.declared.option.Option.{Option}
 use native.Mathlib.Decide.{dec_lt}
 use Rattle.wire.specs.Shape.{bad_record, shape_refusal}
 use Rattle.record.specs.Refusals.{refusal_in}
-use Rattle.burst.specs.Lines.{refused_of, lines_of, Printed}
+use Rattle.burst.specs.Lines.{refused_of, lines_of}
 
 -- ---- a record of more than 8,192 bytes is refused, whatever its bytes
 
@@ -33,15 +33,9 @@ cut rec = go (dec_lt 8193 (length rec))
     go (yes u) = long_lines (take 8193 rec) (omega (arith, length-take-le 8193 rec (omega arith))) ∙ sym (long_lines rec (omega arith))
     go (no u) = ap lines_of (take_all 8193 rec (omega arith))
 
--- ---- the lines at the text's start
-
-front : {rec text text' : List ℕ} {r : ℕ} → Printed rec r text text' → take r text' ≡ lines_of rec
-front {rec} {text} {text'} {r} p = ap (take r) p.lines ∙ take_at (lines_of rec) (drop (length (lines_of rec)) text) r (sym p.count)
-
-pub written : {T E : Type 0} (result : Result T E) (input : Option (List ℕ)) (Writes : List ℕ → Type 0) (page text text' : List ℕ) (n k : ℕ)
-    → IfSome input (λ xs. take n page ≡ take (length page) xs) → length page ≡ 8193 → Printed (take n page) k text text' → OnOk result (Writes (take k text'))
+pub written : {T E : Type 0} (result : Result T E) (input : Option (List ℕ)) (Writes : List ℕ → Type 0) (page : List ℕ) (n : ℕ)
+    → IfSome input (λ xs. take n page ≡ take (length page) xs) → length page ≡ 8193 → OnOk result (Writes (lines_of (take n page)))
     → OnOk result (IfSome input (λ rec. Writes (lines_of rec)))
-written (Err e) input Writes page text text' n k read size p out = tt
-written (Ok x) None Writes page text text' n k read size p out = tt
-written (Ok x) (Some rec) Writes page text text' n k read size p out =
-    subst Writes (front p ∙ ap lines_of (read ∙ ap (λ m. take m rec) size) ∙ cut rec) out
+written (Err e) input Writes page n read size out = tt
+written (Ok x) None Writes page n read size out = tt
+written (Ok x) (Some rec) Writes page n read size out = subst Writes (ap lines_of (read ∙ ap (λ m. take m rec) size) ∙ cut rec) out

@@ -1,4 +1,3 @@
 pub mod Digits
-pub mod Text
 pub mod Lines
 pub mod Printed

@@ -1,5 +1,5 @@
 -- What the program `burst` prints of a record: document 01's lines.
-use Rattle.std.specs.Prelude.{ℕ, ◌+◌, ◌*◌, ◌^◌, ◌≡◌, true, cond, List, [], ◌∷◌, ◌++◌, length, drop, get_or, eqb, Float}
+use Rattle.std.specs.Prelude.{ℕ, ◌+◌, ◌*◌, ◌^◌, true, cond, List, [], ◌∷◌, ◌++◌, get_or, eqb, Float}
 use Rattle.std.specs.Float.{binary32, nan}
 use Rattle.std.specs.Float.Ieee.{to_bits}
 use Rattle.seq.specs.Cat.{cat}
@@ -74,8 +74,3 @@ lines_of rec =
     cond (eqb (refusal_in rec true) 0)
     (heading (nbits b) (refined_of b p) ++ likelihood_lines (nbits b) (answer_of b p))
     (refused_of (refusal_in rec true))
-
--- `lines`: as many bytes of the text, the rest of it as it was
-pub record Printed (rec : List ℕ) (r : ℕ) (text text' : List ℕ) : Type 0 where
-  pub count : r ≡ length (lines_of rec)
-  pub lines : text' ≡ lines_of rec ++ drop (length (lines_of rec)) text

@@ -10,6 +10,7 @@ pub fn read_full<R: Read>(from: &mut R, page: &mut [u8]) -> io::Result<usize>
     ensures bytes { IfOk result (λ n. IfSome (R.remaining from.old) (λ xs. take n page.new ≡ take (length page.new) xs)) }
 {
     let mut done = 0;
+    // `read_exact` keeps no count where the input ends first, and `read_to_end` wants a Vec, which may find no memory.
     while done < page.len() {
         let n = from.read(&mut page[done..])?;
         if n == 0 {

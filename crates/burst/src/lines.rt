@@ -1,26 +1,20 @@
 // Document 01's lines of a record.
-ghost use Rattle.std.specs.Prelude.{◌≡◌, ◌≤◌, length};
-ghost use Rattle.burst.specs.Lines.{Printed};
+ghost use Rattle.std.specs.Prelude.{OnOk};
+ghost use Rattle.std.specs.Io.KnownBytes.{Appends};
+ghost use Rattle.burst.specs.Lines.{lines_of};
 
-use crate::answer::{put_answer, put_refused};
+use crate::answer::{write_answer, write_refused};
+use std::io;
+use std::io::Write;
 
-// Room for the longest answer: 10 + 4 × 4,086 bytes.
-fn answer_page() -> [u8; 16354]
-    ensures { 16354 ≡ length result }
+pub fn write_lines<W: Write>(rec: &[u8], to: &mut W) -> io::Result<()>
+    ensures { OnOk result (Appends (W.contents to.old) (W.contents to.new) (lines_of rec.now)) }
 {
-    [0; 16354]
-}
-
-// The lines at the start of the text; the answer is how many bytes they are.
-pub fn lines(rec: &[u8], text: &mut [u8]) -> usize
-    requires { 36864 ≤ length text.old }
-    ensures { Printed rec.now result text.old text.new }
-{
-    let mut answer = answer_page();
-    let refusal = record::refine_record(rec, &mut answer);
-    if refusal != 0 {
-        return put_refused(refusal, text);
+    // Room for the longest answer: 10 + 4 × 4,086 bytes.
+    let mut answer = [0; 16354];
+    if let Err(cause) = record::refine_record(rec, &mut answer) {
+        return write_refused(u32::from(cause), to);
     }
-    let bits = record::record_bits(rec);
-    put_answer(&answer, bits, text)
+    let bits = record::record_bits(rec).unwrap_or(0);
+    write_answer(&answer, bits, to)
 }

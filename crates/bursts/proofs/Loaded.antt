@@ -9,7 +9,7 @@ use native.Mathlib.Omega.{arith}
 use borrow.Author.Tests.{ne_eqb}
 use lib.Dec.{lit≤}
 use lib.Ieee.{Float}
-use lib.ListN.{length, take, drop}
+use lib.ListN.{length}
 use Rattle.seq.specs.Tab.Laws.{length_tab}
 use Rattle.layout.specs.declared.layouts.Layout.{Layout}
 use Rattle.layout.specs.Layouts.{layout_of}
@@ -17,6 +17,8 @@ use Rattle.layout.specs.Sizes.{ng_of}
 use Rattle.layout.specs.Maps.{map_of}
 use Rattle.layout.proofs.Bounds.{bounds}
 use Rattle.load.specs.declared.pilot.Pilot.{Pilot}
+use Rattle.load.specs.declared.pilots.Pilots.{Pilots}
+use Rattle.load.specs.Pilots.{OnGrid}
 use Rattle.load.specs.Find.{found_at}
 use Rattle.load.proofs.Starts.{length_loaded}
 use Rattle.est.specs.Estimate.{Held}
@@ -28,7 +30,7 @@ use Rattle.probes.specs.declared.pilots.Settings.{Settings}
 use Rattle.probes.specs.Loading.{source_for, Lent, Loading}
 use Rattle.bursts.specs.declared.estimates.Asked.{Asked}
 use Rattle.bursts.specs.declared.models.Selected.{Selected}
-use Rattle.bursts.specs.Work.{Set, pilots_in, starts_in, places_in, pilots_at, starts_at, InWork}
+use Rattle.bursts.specs.Work.{Set, pilots_in, starts_in, pilots_at, starts_at, InWork}
 use Rattle.bursts.specs.Estimating.{estimates_by, put_by, Estimating}
 use Rattle.bursts.specs.Modelling.{nothing, selected_of, Modelling}
 
@@ -36,8 +38,8 @@ pub settled : {t : Settings} {k : ℕ} {l : Layout} {ng hk : ℕ} → l ≡ layo
     → Set t k (record { l = l; sparse = t.sparse; ng = ng; k = hk; p_h = t.p_h })
 settled el en h = record { is = rw (h.same, en, el) refl; some = h.some; most = h.most }
 
-pub fit_in : {s : Setting} {np : ℕ} {w : List ℕ} {pf : List Float} → InWork s np w pf → Fit s (take np w) (take np (drop (places_in s) w)) (take (3 * np) pf) (starts_at s w) × FitModels s.l
-fit_in h = (record { loaded = rw h.loaded.long_pc h.loaded; some = h.some; most = h.most }, h.models)
+pub fit_in : {s : Setting} {np : ℕ} {w : List ℕ} {pf : List Float} → InWork s np w pf → (ps : Pilots) → OnGrid ps s.l.nc s.ng → Fit s ps × FitModels s.l
+fit_in h ps l = (record { loaded = l; some = h.some; most = h.most }, h.models)
 
 few_places : (number nsym : ℕ) → nsym ≤ 1023 → ng_of (layout_of number) nsym * (layout_of number).nc ≤ 118156
 few_places number nsym h =

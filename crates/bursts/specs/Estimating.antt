@@ -1,23 +1,25 @@
 -- What `probe_estimates` answers: at each cell asked for, the estimate without the cell's own pilot.
-use Rattle.std.specs.Prelude.{ℕ, ◌*◌, ◌/◌, ◌%◌, ◌<◌, ◌≡◌, cond, List, [], ◌∷◌, ◌++◌, leb, ltb, eqb, length, get_or, drop, Float}
+use Rattle.std.specs.Prelude.{ℕ, ◌*◌, ◌/◌, ◌%◌, ◌≡◌, cond, List, [], ◌∷◌, ◌++◌, leb, ltb, eqb, length, get_or, drop, Float}
 use Rattle.std.specs.Float.{nan}
 use Rattle.seq.specs.Cat.{cat}
 use Rattle.dsp.specs.Arithmetic.{complex}
 use Rattle.load.specs.declared.pilot.Pilot.{Pilot}
 use Rattle.load.specs.Load.{nothing}
+use Rattle.load.specs.Pilots.{listed}
 use Rattle.near.specs.declared.query.Query.{Query}
 use Rattle.est.specs.Estimate.{estimate_without}
 use Rattle.est.specs.Model.{rf_of, rt_of, scales_of}
 use Rattle.est.specs.declared.combine.Estimate.{Estimate}
+use Rattle.est.specs.declared.estimator.Estimator.{Estimator}
 use Rattle.est.specs.declared.model.Scales.{Scales}
 use Rattle.model.specs.Values.{numerology_of, window_of, fd_value, tm_value}
-use Rattle.model.specs.Score.{Windowed}
 use Rattle.model.specs.declared.trial.Setting.{Setting}
 use Rattle.judge.specs.Cells.{index_in}
+use Rattle.judge.specs.Symbol.{fitted_in}
+use Rattle.judge.specs.declared.estimates.Fitted.{Fitted}
 use Rattle.probes.specs.declared.pilots.Settings.{Settings}
 use Rattle.probes.specs.Loading.{source_for, Loading}
 use Rattle.bursts.specs.declared.estimates.Asked.{Asked}
-use Rattle.bursts.specs.declared.estimates.Fitted.{Fitted}
 use Rattle.bursts.specs.Work.{setting_for, pilots_in, starts_in}
 
 -- carrier c of symbol g, with the model's units of distance
@@ -35,16 +37,24 @@ flat_estimate e = e.h.re ∷ e.h.im ∷ e.mse ∷ []
 unfoldable pub own_of : List Pilot → List ℕ → ℕ → ℕ → ℕ
 own_of ps start = index_in (λ i. (get_or ps i nothing).c) start
 
-module _ (f : Fitted) (ps : List Pilot) (start : List ℕ) (rf rt : List Float) where
+module _ (p_h : Float) (f : Fitted) (ps : List Pilot) (start : List ℕ) (rf rt : List Float) where
   -- at cell j of the grid, counted in order of symbol, then carrier
   unfoldable pub estimate_at : ℕ → Estimate
   estimate_at j =
       let c = j % f.w.nc in
       let g = j / f.w.nc in
-      cond (ltb g f.w.ng) (estimate_without f.p_h rf rt (cell f.u c g) f.w ps start f.scale (own_of ps start c g)) outside
+      cond (ltb g f.w.ng) (estimate_without p_h rf rt (cell f.u c g) f.w ps start f.scale (own_of ps start c g)) outside
 
   unfoldable pub estimates_at : List ℕ → List Float
   estimates_at at = cat (length at) (λ i. flat_estimate (estimate_at (get_or at i 0)))
+
+-- the same at what an estimator holds
+module _ (e : Estimator) where
+  abbrev pub estimate_with : ℕ → Estimate
+  estimate_with j = estimate_at e.p_h (fitted_in e) (listed e.pilots) e.pilots.start.now e.rf.now e.rt.now j
+
+  abbrev pub estimates_with : List ℕ → List Float
+  estimates_with at = estimates_at e.p_h (fitted_in e) (listed e.pilots) e.pilots.start.now e.rf.now e.rt.now at
 
 module _ (s : Setting) (a : Asked) where
   abbrev fd : Float
@@ -55,7 +65,7 @@ module _ (s : Setting) (a : Asked) where
 
   -- after set_model(fd, tm)
   unfoldable pub fitted_of : Fitted
-  fitted_of = record { w = window_of s.l s.ng s.k; u = scales_of (numerology_of s.l) fd tm; p_h = s.p_h; scale = a.scale }
+  fitted_of = record { w = window_of s.l s.ng s.k; u = scales_of (numerology_of s.l) fd tm; scale = a.scale }
 
   unfoldable pub carrier_table : List Float
   carrier_table = rf_of (numerology_of s.l) tm
@@ -64,14 +74,7 @@ module _ (s : Setting) (a : Asked) where
   symbol_table = rt_of (numerology_of s.l) fd
 
   unfoldable pub estimates_by : List Pilot → List ℕ → List ℕ → List Float
-  estimates_by ps start = estimates_at fitted_of ps start carrier_table symbol_table
-
--- what the estimates may count on
-pub record Ready (f : Fitted) (pc pg : List ℕ) (pf : List Float) (start : List ℕ) (rf rt : List Float) : Type 0 where
-  pub windowed : Windowed f.w pc pg pf start
-  pub some : 0 < f.w.nc
-  pub in_rf : 2 * f.w.nc < length rf
-  pub in_rt : 4 * f.w.gw < length rt
+  estimates_by ps start = estimates_at s.p_h fitted_of ps start carrier_table symbol_table
 
 -- three numbers a cell in front of out, which is as it was where it has no room for them
 unfoldable pub put_by : (at : List ℕ) (new out : List Float) → List Float

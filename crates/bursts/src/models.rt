@@ -1,13 +1,14 @@
 // model: the nine residuals and the model chosen by them, from a burst that is loaded first.
-ghost use Rattle.std.specs.Prelude.{◌≡◌, ◌<◌, length};
-ghost use Rattle.load.specs.Pilots.{pilots};
+ghost use Rattle.std.specs.Prelude.{◌≡◌, ◌<◌};
+ghost use Rattle.load.specs.Pilots.{listed};
 ghost use Rattle.model.specs.Values.{FitModels};
 ghost use Rattle.model.specs.Score.{Fit};
 ghost use Rattle.model.specs.Select.{tried, residuals};
 ghost use Rattle.bursts.specs.Work.{pilots_at, starts_at, InWork};
 ghost use Rattle.bursts.specs.Modelling.{selected_of, Modelling};
 
-use crate::work::{setting_of, starts_in, symbols_in};
+use crate::work::{pilots_in, setting_of};
+use load::Pilots;
 use model::Setting;
 use probes::{Settings, probe_load};
 
@@ -23,23 +24,22 @@ pub struct Selected {
 }
 
 // Of model t, fd outside and tm inside.
-fn residual(pc: &[u32], pg: &[u32], pf: &[f32], start: &[u32], s: Setting, t: u32) -> f64
-    requires { Fit s pc.now pg.now pf.now start.now × FitModels s.l × (t < 9) }
-    ensures { result ≡ (tried s (pilots pc.now pg.now pf.now (length pc.now)) start.now t).r }
+fn residual(ps: &Pilots, s: Setting, t: u32) -> f64
+    requires { Fit s ps.now × FitModels s.l × (t < 9) }
+    ensures { result ≡ (tried s (listed ps.now) ps.now.start.now t).r }
 {
     let fd = model::fd_value(s.l, s.sparse, t / 3);
     let tm = model::tm_value(s.l, t % 3);
-    let tried = model::score(pc, pg, pf, start, s, fd, tm);
-    tried.r
+    model::score(ps, s, fd, tm).r
 }
 
-fn residuals(pc: &[u32], pg: &[u32], pf: &[f32], start: &[u32], s: Setting) -> [f64; 9]
-    requires { Fit s pc.now pg.now pf.now start.now × FitModels s.l }
-    ensures { result ≡ residuals s (pilots pc.now pg.now pf.now (length pc.now)) start.now }
+fn residuals(ps: &Pilots, s: Setting) -> [f64; 9]
+    requires { Fit s ps.now × FitModels s.l }
+    ensures { result ≡ residuals s (listed ps.now) ps.now.start.now }
 {
     let mut rs = [0f64; 9];
-    for t in 0..9 {
-        rs[t] = residual(pc, pg, pf, start, s, t as u32);
+    for (t, r) in rs.iter_mut().enumerate() {
+        *r = residual(ps, s, t as u32);
     }
     rs
 }
@@ -49,16 +49,11 @@ fn select(s: Setting, np: usize, w: &[u32], pf: &[f32]) -> Selected
     requires { InWork s np w.now pf.now }
     ensures { result ≡ selected_of np s (pilots_at s np w.now pf.now) (starts_at s w.now) }
 {
-    let pc = &w[..np];
-    let pg = symbols_in(s, np, w);
-    let n = 3 * np;
-    let f = &pf[..n];
-    let start = starts_in(s, np, w);
-    let residuals = residuals(pc, pg, f, start, s);
-    let m = model::select_model(pc, pg, f, start, s);
+    let ps = pilots_in(s, np, w, pf);
+    let m = model::select_model(&ps, s);
     Selected {
         np,
-        residuals,
+        residuals: residuals(&ps, s),
         fd: m.fd,
         tm: m.tm,
         scale: m.scale,

@@ -1,7 +1,9 @@
 // A loaded burst: its setting, and its pilots in the work lists, np of them.
-ghost use Rattle.std.specs.Prelude.{◌≡◌, ◌≤◌, take, drop};
-ghost use Rattle.bursts.specs.Work.{Set, places_in, starts_at, Room};
+ghost use Rattle.std.specs.Prelude.{◌≡◌, ◌≤◌};
+ghost use Rattle.load.specs.Pilots.{listed, OnGrid};
+ghost use Rattle.bursts.specs.Work.{Set, pilots_at, starts_at, InWork};
 
+use load::Pilots;
 use model::Setting;
 use probes::Settings;
 
@@ -20,24 +22,19 @@ pub fn setting_of(s: Settings, k: usize) -> Setting
     }
 }
 
-// The pilots' symbols.
-pub fn symbols_in(s: Setting, np: usize, w: &[u32]) -> &[u32]
-    requires { Room s np w.now }
-    ensures { result.now ≡ take np (drop (places_in s) w.now) }
+// Carriers from 0 on, symbols and starts where `load` puts them.
+pub fn pilots_in<'a>(s: Setting, np: usize, w: &'a [u32], pf: &'a [f32]) -> Pilots<'a>
+    requires { InWork s np w.now pf.now }
+    ensures listed { listed result ≡ pilots_at s np w.now pf.now }
+    ensures starts { result.start.now ≡ starts_at s w.now }
+    ensures on_grid { OnGrid result s.l.nc s.ng }
 {
     let l = s.l;
     let n = s.ng * l.nc;
-    let end = n + np;
-    &w[n..end]
-}
-
-// Where each symbol's pilots begin.
-pub fn starts_in(s: Setting, np: usize, w: &[u32]) -> &[u32]
-    requires { Room s np w.now }
-    ensures { result.now ≡ starts_at s w.now }
-{
-    let l = s.l;
-    let n = 2 * (s.ng * l.nc);
-    let end = n + s.ng + 1;
-    &w[n..end]
+    Pilots {
+        c: &w[..np],
+        g: &w[n..n + np],
+        f: &pf[..3 * np],
+        start: &w[2 * n..2 * n + s.ng + 1],
+    }
 }

@@ -1,12 +1,13 @@
 -- Of the pilots in the work lists those near the cell may be asked of, and they give the estimate by all. Assumes nothing.
 use Prim.Native.Nat.{ℕ, ◌+◌, ◌-◌, ◌*◌, ◌≤◌, ◌<◌, min}
 use mathlib.Core.Path.{◌≡◌, refl, sym, ◌∙◌}
-use mathlib.Core.List.{List}
+use mathlib.Core.List.{List, ◌++◌}
+use lib.Seq.{take_at}
 use native.Mathlib.Omega.{arith}
 use lib.ListN.{length, get_or, take, drop}
 use lib.Ieee.{Float, nan}
 use Rattle.seq.specs.Tab.{tab}
-use Rattle.seq.specs.Tab.Laws.{length_tab, get_d_tab, tab_only}
+use Rattle.seq.specs.Tab.Laws.{length_tab, tab_only}
 use Rattle.load.specs.declared.pilot.Pilot.{Pilot}
 use Rattle.load.specs.Pilots.{pilot_at, pilots, Loaded}
 use Rattle.load.specs.Fit.{places}
@@ -55,19 +56,23 @@ module _ (s : Setting) (pc pg : List ℕ) (pf : List Float) (start : List ℕ) (
   within : (lo ≤ hi) × (hi ≤ length pc)
   within = (l.order (g - s.l.gw) (min (g + s.l.gw + 1) s.ng) (omega arith) (omega arith), omega (arith, l.order (min (g + s.l.gw + 1) s.ng) s.ng (omega arith) (omega arith), l.whole))
 
-  near_are : near_of s ps start g ≡ tab (hi - lo) (λ (i : ℕ). pilot_at pc pg pf (lo + i))
+  near_are : near_of s ps start g ≡ tab (hi - lo) (λ (i : ℕ). pilot ps (lo + i))
   unfolding near_of
-  near_are =
-      tab_only (λ (i : ℕ). pilot_at pc pg pf (lo + i)) (hi - lo) none _ (long_inner q w ps start ordered hg)
-      (λ i u. inner_at q w ps start ordered hg i u ∙ get_d_tab (pilot_at pc pg pf) (length pc) (lo + i) none (omega (arith, within)))
+  near_are = tab_only (λ (i : ℕ). pilot ps (lo + i)) (hi - lo) none _ (long_inner q w ps start ordered hg) (λ i u. inner_at q w ps start ordered hg i u)
 
   -- at the code's numbers
   module _ (a b m n : ℕ) (ea : a ≡ g - s.l.gw) (eb : b ≡ min (g + s.l.gw + 1) s.ng) (em : m ≡ get_or start a 0) (en : n ≡ get_or start b 0) where
     pub spans : Rows s.l.nc s.ng start → s.l.gw ≤ 12 → (m ≤ n) × (n ≤ length pc) × (n - m ≤ 2725)
     spans r h = rw (em, en, ea, eb) (within.0, within.1, omega (arith, few_near s.l.nc s.ng start r g s.l.gw l.carriers h hg))
 
-    pub near_from : (rs : List Pilot) → take (n - m) rs ≡ tab (n - m) (λ (i : ℕ). pilot_at pc pg pf (m + i)) → take (n - m) rs ≡ near_of s ps start g
-    near_from rs e = e ∙ (rw (em, en, ea, eb) (sym near_are))
+    -- put in front of a list as long as they are
+    pub near_from : (rs rest : List Pilot) (k : ℕ) → k ≡ n - m → rs ≡ tab k (λ (i : ℕ). pilot ps (m + i)) → take (n - m) (rs ++ rest) ≡ near_of s ps start g
+    near_from rs rest k h e =
+        let f : ℕ → Pilot = λ i. pilot ps (m + i) in
+        let t : take (n - m) (tab (n - m) f ++ rest) ≡ tab (n - m) f = take_at (tab (n - m) f) rest (n - m) (length_tab f (n - m)) in
+        let front : take (n - m) (rs ++ rest) ≡ tab (n - m) f = rw (e, h) t in
+        let these : tab (n - m) f ≡ near_of s ps start g = rw (em, en, ea, eb) (sym near_are) in
+        front ∙ these
 
 -- ---- of the parts of the work lists that are lent on
 

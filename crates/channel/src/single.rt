@@ -1,26 +1,28 @@
 // est.rs, `estimate`, by all pilots under the model that `new` sets. Those near the cell are handed on as one list of records.
-ghost use Rattle.std.specs.Prelude.{◌≡◌, ◌<◌, ◌≤◌, take};
+ghost use Rattle.std.specs.Prelude.{◌≡◌, ◌<◌, take};
 ghost use Rattle.refine.specs.Back.{Agrees};
 ghost use Rattle.refine.specs.Whole.{pilots_in, starts_in};
 ghost use Rattle.channel.specs.Single.{estimate_under, near_of, InWork};
 
 use crate::records::{Records, near_records};
 use est::Estimate;
-use listed::{Ask, estimate_first};
+use listed::Ask;
+use load::Pilots;
 use refine::{Plan, places_of};
 
 // Of the np pilots in the work lists those near symbol g.
 fn near_loaded(p: Plan, np: usize, g: usize, wf: &[f32], wu: &[u32]) -> Records
     requires { Agrees p × InWork p np wf.now wu.now × (g < p.source.ng) }
-    ensures { (result.n ≤ 2725) × (take result.n result.ps ≡ near_of p.setting (pilots_in p np wf.now wu.now) (starts_in p wu.now) g) }
+    ensures { take result.n result.ps ≡ near_of p.setting (pilots_in p np wf.now wu.now) (starts_in p wu.now) g }
 {
-    let s = p.source;
-    let n = places_of(s);
-    let a = n + np;
-    let b = 2 * n;
-    let d = b + s.ng + 1;
-    let setting = p.setting;
-    near_records(setting, &wu[..np], &wu[n..a], &wf[..3 * np], &wu[b..d], g)
+    let n = places_of(p.source);
+    let pilots = Pilots {
+        c: &wu[..np],
+        g: &wu[n..n + np],
+        f: &wf[..3 * np],
+        start: &wu[2 * n..2 * n + p.source.ng + 1],
+    };
+    near_records(&pilots, p.setting, g)
 }
 
 // By all np pilots. The work lists are free to work in once the records are made.
@@ -35,9 +37,11 @@ pub fn estimate_loaded(
     requires { Agrees p × InWork p np wf.old wu.old × (c < p.source.map.nc) × (g < p.source.ng) }
     ensures { result ≡ estimate_under p.setting (pilots_in p np wf.old wu.old) (starts_in p wu.old) c g }
 {
-    let r = near_loaded(p, np, g, wf, wu);
-    let ps = r.ps;
-    let setting = p.setting;
-    let a = Ask { setting, c, g };
-    estimate_first(ps, r.n, a, wu, wf)
+    let near = near_loaded(p, np, g, wf, wu);
+    let a = Ask {
+        setting: p.setting,
+        c,
+        g,
+    };
+    listed::estimate(near.as_slice(), a, wu, wf)
 }

@@ -4,6 +4,7 @@ pub mod Bounds
 pub mod Top
 pub mod Same
 pub mod Sharing
+pub mod Folds
 pub mod Sums
 pub mod Logarithm
 pub mod Finite

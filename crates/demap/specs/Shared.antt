@@ -25,3 +25,19 @@ pick_turn e bps b bit k s = cond (eqb (bit_of bps k b) bit) (s ⊞ at e k) s
 
 unfoldable pub picked_of : List Float → ℕ → ℕ → ℕ → Float
 picked_of e bps b bit = for 0 (2 ^ bps) (pick_turn e bps b bit) zero32
+
+-- from `first` on, a step for each label that has the bit: the loop of which the largest metric and the two sums are instances
+unfoldable pub half_turn : (Float → Float → Float) → List Float → ℕ → ℕ → ℕ → ℕ → Float → Float
+half_turn step d bps b bit k s = cond (eqb (bit_of bps k b) bit) (step s (at d k)) s
+
+unfoldable pub half_of : (Float → Float → Float) → List Float → ℕ → ℕ → ℕ → Float → Float
+half_of step d bps b bit first = for 0 (2 ^ bps) (half_turn step d bps b bit) first
+
+-- the step may be taken at each of these labels, whatever went before
+abbrev pub CanStep : (Float → Float → Type 0) → List Float → ℕ → ℕ → ℕ → Type 0
+CanStep pre d bps b bit = (k : ℕ) → k < 2 ^ bps → bit_of bps k b ≡ bit → (s : Float) → pre s (at d k)
+
+-- r is what the steps come to, for any f that says what one step answers
+abbrev pub FoldsHalf : (Float → Float → Float → Type 0) → List Float → ℕ → ℕ → ℕ → Float → Float → Type 0
+FoldsHalf post d bps b bit first r =
+    (f : Float → Float → Float) → ((s x t : Float) → post s x t → t ≡ f s x) → r ≡ half_of f d bps b bit first

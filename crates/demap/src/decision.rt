@@ -3,6 +3,7 @@ ghost use Rattle.demap.specs.Decide.{nearer_of, decide_of};
 
 use crate::metrics::distance;
 use dsp::Complex;
+use points::Points;
 
 // The least distance so far, and the point that has it.
 #[derive(Clone, Copy)]
@@ -11,28 +12,25 @@ struct Best {
     x: Complex,
 }
 
-fn nearer(best: Best, e: f32, x: Complex) -> Best
-    ensures { result ≡ nearer_of best e x }
-{
-    if e < best.e {
-        return Best { e, x };
+impl Best {
+    fn nearer(self, e: f32, x: Complex) -> Best
+        ensures { result ≡ nearer_of self e x }
+    {
+        if e < self.e { Best { e, x } } else { self }
     }
-    best
 }
 
 // The point nearest to y / h, or the complex zero where no distance is below infinity.
-pub fn decide(y: Complex, h: Complex, pts: &[f32; 128], bps: usize) -> Complex
-    requires { bps ≤ 6 }
-    ensures { result ≡ decide_of y h pts.now bps }
+pub fn decide(y: Complex, h: Complex, pts: &Points) -> Complex
+    ensures { result ≡ decide_of y h pts.now.pts pts.now.bps }
 {
-    let n = points::count(bps);
     let mut best = Best {
-        e: 1.0f32 / 0.0f32,
+        e: f32::INFINITY,
         x: Complex::ZERO,
     };
-    for k in 0..n {
-        let x = points::point(pts, k);
-        best = nearer(best, distance(y, h, x), x);
+    for k in 0..pts.count() {
+        let x = pts.point(k);
+        best = best.nearer(distance(y, h, x), x);
     }
     best.x
 }

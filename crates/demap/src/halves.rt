@@ -1,60 +1,61 @@
-ghost use Rattle.std.specs.Prelude.{◌≡◌, cond, true, ◌≤◌, ◌<◌};
-ghost use Rattle.ieee.specs.Num.{◌⊞◌, ◌⊟◌};
-ghost use Rattle.ieee.specs.Order.{max_of};
-ghost use Rattle.elementary.specs.Domain.{NotAbove};
-ghost use Rattle.elementary.specs.Exp.{exp_at};
+ghost use Rattle.std.specs.Prelude.{◌≡◌, ◌≤◌, ◌<◌};
 ghost use Rattle.soft.specs.Soft.{bit_of};
 ghost use Rattle.demap.specs.Demap.{top_of, sum_of};
+ghost use Rattle.demap.specs.Shared.{picked_of, CanStep, FoldsHalf};
 
-// The bit b of the label k, the first one first.
-pub fn label_bit(bps: usize, k: usize, b: usize) -> usize
-    requires { (b < bps) × (bps ≤ 6) }
-    ensures { result ≡ bit_of bps k b }
-{
-    (k >> (bps - 1 - b)) % 2
+// A number for each label of so many bits, in the order of the labels. What follows the last is not read.
+#[derive(Clone, Copy)]
+pub struct ByLabel {
+    pub bps: usize,
+    pub at: [f32; 64],
+    pub ghost few: { bps ≤ 6 },
 }
 
-fn raised(m: f32, dk: f32, own: bool) -> f32
-    ensures { result ≡ cond own (max_of m dk) m }
-{
-    if own {
-        return ieee::max32(m, dk);
+impl ByLabel {
+    // The bit b of the label k, the first one first.
+    fn bit(&self, k: usize, b: usize) -> usize
+        requires { b < self.now.bps }
+        ensures { result ≡ bit_of self.now.bps k b }
+    {
+        (k >> (self.bps - 1 - b)) % 2
     }
-    m
-}
 
-// The largest metric of the labels whose bit b is `bit`.
-pub fn top(d: &[f32; 64], bps: usize, b: usize, bit: usize) -> f32
-    requires { (b < bps) × (bps ≤ 6) }
-    ensures { result ≡ top_of d.now bps b bit }
-{
-    let n = points::count(bps);
-    let mut m = -1.0f32 / 0.0f32;
-    for k in 0..n {
-        m = raised(m, d[k], label_bit(bps, k, b) == bit);
+    // From `first` on, a step for each label whose bit b is `bit`.
+    fn fold_half<F: Fn(f32, f32) -> f32>(&self, b: usize, bit: usize, first: f32, step: F) -> f32
+        requires within { b < self.now.bps }
+        requires can { CanStep (F.pre step) self.now.at self.now.bps b bit }
+        ensures { FoldsHalf (F.post step) self.now.at self.now.bps b bit first result }
+    {
+        let mut s = first;
+        for (k, &x) in self.at[..points::count(self.bps)].iter().enumerate() {
+            if self.bit(k, b) == bit {
+                s = step(s, x);
+            }
+        }
+        s
     }
-    m
-}
 
-fn added(s: f32, dk: f32, m: f32, own: bool) -> f32
-    requires { own ≡ true → NotAbove (dk ⊟ m) }
-    ensures { result ≡ cond own (s ⊞ exp_at (dk ⊟ m)) s }
-{
-    if own {
-        return s + elementary::exp(dk - m);
+    // The largest number of the labels whose bit b is `bit`.
+    pub fn top(&self, b: usize, bit: usize) -> f32
+        requires { b < self.now.bps }
+        ensures { result ≡ top_of self.now.at self.now.bps b bit }
+    {
+        self.fold_half(b, bit, f32::NEG_INFINITY, |m, x| ieee::max(m, x))
     }
-    s
-}
 
-// The sum of their likelihoods against the largest.
-pub fn sum(d: &[f32; 64], bps: usize, b: usize, bit: usize, m: f32) -> f32
-    requires { ((b < bps) × (bps ≤ 6)) × (m ≡ top_of d.now bps b bit) }
-    ensures { result ≡ sum_of d.now bps b bit }
-{
-    let n = points::count(bps);
-    let mut s = 0.0f32;
-    for k in 0..n {
-        s = added(s, d[k], m, label_bit(bps, k, b) == bit);
+    // The sum of their likelihoods against m, the largest.
+    pub fn sum_against(&self, b: usize, bit: usize, m: f32) -> f32
+        requires { (b < self.now.bps) × (m ≡ top_of self.now.at self.now.bps b bit) }
+        ensures { result ≡ sum_of self.now.at self.now.bps b bit }
+    {
+        self.fold_half(b, bit, 0.0, |s, x| s + elementary::exp(x - m))
     }
-    s
+
+    // Their sum.
+    pub fn sum(&self, b: usize, bit: usize) -> f32
+        requires { b < self.now.bps }
+        ensures { result ≡ picked_of self.now.at self.now.bps b bit }
+    {
+        self.fold_half(b, bit, 0.0, |s, x| s + x)
+    }
 }

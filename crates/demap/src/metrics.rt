@@ -1,8 +1,9 @@
 ghost use Rattle.std.specs.Prelude.{◌≡◌, ◌≤◌};
-ghost use Rattle.soft.specs.Tree.{page};
 ghost use Rattle.demap.specs.Demap.{distance_of, metric_of, metrics_of};
 
+use crate::halves::ByLabel;
 use dsp::Complex;
+use points::Points;
 
 // A cell y = h x + n, where the channel estimate h has the error variance mse and the noise n the variance sigma2.
 #[derive(Clone, Copy)]
@@ -23,24 +24,18 @@ pub fn distance(y: Complex, h: Complex, x: Complex) -> f32
 fn metric(c: Cell, x: Complex) -> f32
     ensures { result ≡ metric_of c x }
 {
-    let v = ieee::max32(c.sigma2 + c.mse * x.norm_sqr(), 1e-30);
+    let v = ieee::max(c.sigma2 + c.mse * x.norm_sqr(), 1e-30);
     -distance(c.y, c.h, x) / v - elementary::ln(v)
 }
 
-pub fn page() -> [f32; 64]
-    ensures { result ≡ page }
+// The metrics of the points, by their labels.
+pub fn metrics(c: Cell, pts: &Points) -> ByLabel
+    ensures bits { result.bps ≡ pts.now.bps }
+    ensures each { result.at ≡ metrics_of c pts.now.pts pts.now.bps }
 {
-    [0f32; 64]
-}
-
-pub fn metrics(c: Cell, pts: &[f32; 128], bps: usize) -> [f32; 64]
-    requires { bps ≤ 6 }
-    ensures { result ≡ metrics_of c pts.now bps }
-{
-    let n = points::count(bps);
-    let mut d = page();
-    for k in 0..n {
-        d[k] = metric(c, points::point(pts, k));
+    let mut at = [0f32; 64];
+    for (k, d) in at[..pts.count()].iter_mut().enumerate() {
+        *d = metric(c, pts.point(k));
     }
-    d
+    ByLabel { bps: pts.bps, at }
 }

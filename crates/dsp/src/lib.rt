@@ -1,10 +1,12 @@
-// Complex numbers of two f32, after ion-dsp's `Complex`, and lists of numbers.
+// Complex numbers of two f32, after ion-dsp's `Complex`, and where they stand in a list of numbers.
 #![tactic(auto)]
 
 ghost use Rattle.std.specs.Prelude.{◌≡◌};
 ghost use Rattle.dsp.specs.Arithmetic.{complex, conjᶜ, norm_sqr, scaleᶜ, ◌+ᶜ◌, ◌-ᶜ◌, ◌*ᶜ◌, negᶜ};
 
+mod flat;
 mod lists;
+mod operators;
 
 pub use lists::copy;
 
@@ -50,36 +52,24 @@ impl Complex {
     pub fn add(self, o: Complex) -> Complex
         ensures { result ≡ self +ᶜ o }
     {
-        Complex {
-            re: self.re + o.re,
-            im: self.im + o.im,
-        }
+        self + o
     }
 
     pub fn sub(self, o: Complex) -> Complex
         ensures { result ≡ self -ᶜ o }
     {
-        Complex {
-            re: self.re - o.re,
-            im: self.im - o.im,
-        }
+        self - o
     }
 
     pub fn mul(self, o: Complex) -> Complex
         ensures { result ≡ self *ᶜ o }
     {
-        Complex {
-            re: self.re * o.re - self.im * o.im,
-            im: self.re * o.im + self.im * o.re,
-        }
+        self * o
     }
 
     pub fn neg(self) -> Complex
         ensures { result ≡ negᶜ self }
     {
-        Complex {
-            re: -self.re,
-            im: -self.im,
-        }
+        -self
     }
 }

@@ -8,7 +8,5 @@ pub fn copy(src: &[f32], dst: &mut [f32], n: usize)
     requires { (n ≤ length src.now) × (n ≤ length dst.old) }
     ensures { dst.new ≡ tab n (λ i. get_or src.now i nan) ++ drop n dst.old }
 {
-    for i in 0..n {
-        dst[i] = src[i];
-    }
+    dst[..n].copy_from_slice(&src[..n]);
 }

@@ -1,5 +1,5 @@
 -- Every turn of the sums stays within a word and takes at most the whole. Assumes nothing.
-use Rattle.std.proofs.Common.{ℕ, ◌+◌, ◌-◌, ◌*◌, ◌/◌, ◌^◌, ◌<◌, ◌≤◌, le_trans, le_of_eq, le_of_lt, mul-le-mul_right, mul_comm, mul-le-mul, mul-le-mul_left, div-le_self, arith}
+use Rattle.std.proofs.Common.{◌≡◌, ℕ, ◌+◌, ◌-◌, ◌*◌, ◌/◌, ◌^◌, ◌<◌, ◌≤◌, le_trans, le_of_eq, le_of_lt, mul-le-mul_right, mul_comm, mul-le-mul, mul-le-mul_left, div-le_self, arith}
 use native.Mathlib.Nat.{div-le_of_le-mul}
 use Rattle.elementary.specs.FixedPoint.{M, B}
 
@@ -42,8 +42,13 @@ sin_divisor j h = mul-le-mul {n₁ = 1} {m₁ = 3} (omega arith) (omega arith)
 pub cos_divisor : (j : ℕ) → 2 ≤ j → 3 ≤ (2 * j - 1) * (2 * j)
 cos_divisor j h = mul-le-mul {n₁ = 3} {m₁ = 1} (omega arith) (omega arith)
 
-pub sin_divisor_le : (j : ℕ) → j ≤ 8 → 2 * j * (2 * j + 1) ≤ 16 * 17
-sin_divisor_le j h = mul-le-mul {n₂ = 16} {m₂ = 17} (omega arith) (omega arith)
+-- the code's divisor, whose first factor is 2 j - K
+pub divisor_sin : (K j : ℕ) → K ≡ 0 → (2 * j - K) * (2 * j - K + 1) ≡ 2 * j * (2 * j + 1)
+divisor_sin K j e =
+    let a : 2 * j - K ≡ 2 * j = omega arith in
+    rw a
 
-pub cos_divisor_le : (j : ℕ) → j ≤ 8 → (2 * j - 1) * (2 * j) ≤ 15 * 16
-cos_divisor_le j h = mul-le-mul {n₂ = 15} {m₂ = 16} (omega arith) (omega arith)
+pub divisor_cos : (K j : ℕ) → K ≡ 1 → 1 ≤ j → (2 * j - K) * (2 * j - K + 1) ≡ (2 * j - 1) * (2 * j)
+divisor_cos K j e h =
+    let a : 2 * j - K + 1 ≡ 2 * j = omega arith in
+    rw (a, e)

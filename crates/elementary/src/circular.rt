@@ -8,32 +8,20 @@ use crate::fixed::{B, over64, size30};
 // A quarter turn at the scale B.
 const H: u64 = 1686629713;
 
-// The turns of s, with g for F.
-fn sin_steps(g: u64) -> u64
-    requires { g ≤ 3 * B }
-    ensures { (result ≡ sin_sum g) × (result ≤ B) }
+// The turns of s, where K is 0, and those of c but the last, where K is 1, with g for F.
+// Each divides by two neighbours, the first of which is 2j or one less.
+fn steps<const K: u64>(g: u64) -> u64
+    requires { (K ≤ 1) × (g ≤ 3 * B) }
+    ensures sin { K ≡ 0 → result ≡ sin_sum g }
+    ensures cos { K ≡ 1 → result ≡ cos_sum g }
+    ensures most { result ≤ B }
 {
     let mut s: u64 = B;
-    let mut j: u64 = 8;
-    while j > 0 {
-        s = B - g * s / B / (2 * j * (2 * j + 1));
-        j -= 1;
+    for j in (1 + K..9).rev() {
+        let d = 2 * j - K;
+        s = B - g * s / B / (d * (d + 1));
     }
     s
-}
-
-// The turns of c but the last, with g for F.
-fn cos_steps(g: u64) -> u64
-    requires { g ≤ 3 * B }
-    ensures { (result ≡ cos_sum g) × (result ≤ B) }
-{
-    let mut c: u64 = B;
-    let mut j: u64 = 8;
-    while j > 1 {
-        c = B - g * c / B / ((2 * j - 1) * (2 * j));
-        j -= 1;
-    }
-    c
 }
 
 // s at f, with g for F.
@@ -41,7 +29,7 @@ fn sine(f: u64, g: u64) -> u64
     requires { (f < 1686629713) × (g ≤ 3 * B) }
     ensures { (result ≡ f * sin_sum g / B) × (result < 2 ^ 53) }
 {
-    f * sin_steps(g) / B
+    f * steps::<0>(g) / B
 }
 
 // What the last turn of c takes from B, with g for F.
@@ -49,7 +37,7 @@ fn taken(g: u64) -> u64
     requires { g ≤ 3 * B }
     ensures { (result ≡ g * cos_sum g / B / 2) × (result < 2 ^ 53) }
 {
-    g * cos_steps(g) / B / 2
+    g * steps::<1>(g) / B / 2
 }
 
 // s, c, -s or -c over B, of which only the sum that the quarter r needs is made.
@@ -86,8 +74,8 @@ pub fn sin(p: f64) -> f64
     requires { InTurns p }
     ensures { result ≡ sin_at p }
 {
-    if p != p {
-        return 0.0f64 / 0.0f64;
+    if p.is_nan() {
+        return f64::NAN;
     }
     if p < 0.0 {
         return -wave(0, size30(p));
@@ -100,8 +88,8 @@ pub fn cos(p: f64) -> f64
     requires { InTurns p }
     ensures { result ≡ cos_at p }
 {
-    if p != p {
-        return 0.0f64 / 0.0f64;
+    if p.is_nan() {
+        return f64::NAN;
     }
     wave(1, size30(p))
 }

@@ -6,15 +6,14 @@ ghost use Rattle.elementary.specs.Exp.{exp_sum, exp_at};
 use crate::fixed::{L, M, fixed_bits};
 
 // P, by Horner's rule: e ^ -(f / M) at the scale M.
+#[tactic(auto, using(crate::proofs::Turns::turn_at, crate::proofs::Turns::turn_none, crate::proofs::TurnBounds::exp_term), unfolding(crate::specs::Exp::exp_sum))]
 fn horner(f: u64) -> u64
     requires { f < L }
     ensures { (result ≡ exp_sum f) × ((0 < result) × (result ≤ M)) }
 {
     let mut p: u64 = M;
-    let mut j: u64 = 12;
-    while j > 0 {
+    for j in (1..=12).rev() {
         p = M - f * p / M / j;
-        j -= 1;
     }
     p
 }
@@ -24,8 +23,8 @@ pub fn exp(x: f32) -> f32
     requires { NotAbove x }
     ensures { result ≡ exp_at x }
 {
-    if x != x {
-        return 0.0f32 / 0.0f32;
+    if x.is_nan() {
+        return f32::NAN;
     }
     if x < -87.0 {
         return 0.0;

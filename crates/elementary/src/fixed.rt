@@ -58,7 +58,8 @@ pub fn size30(p: f64) -> u64
     std::num::truncating_f64_to_u64(p * 1073741824.0)
 }
 
-// (a - b) / 2^30.
+// (a - b) / 2^30. Not one function with over32: they share the choice of the sign alone, and a trait that names the
+// scale, the division and the negation would be longer than both.
 pub fn over64(a: u64, b: u64) -> f64
     requires { (a < 2 ^ 53) × (b < 2 ^ 53) }
     ensures { result ≡ over binary64 a b B }

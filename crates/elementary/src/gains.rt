@@ -1,7 +1,7 @@
 ghost use Rattle.std.specs.Prelude.{◌≡◌, ◌≤◌};
 ghost use Rattle.elementary.specs.Gain.{gain_at};
 
-// The gain of code q, the f32 nearest 10 ^ (3 q / 80).
+// The gain of code q, the f32 nearest 10 ^ (3 q / 80). The code is a number of the header's field, and C's argument.
 pub fn gain(code: u32) -> f32
     requires { code ≤ 3 }
     ensures { result ≡ gain_at code }

@@ -10,14 +10,13 @@ use crate::fixed::{L, M, fixed_bits, over_m, over32};
 const BIAS: u64 = 127 * L;
 
 // The turns of S, with w for W.
+#[tactic(auto, using(crate::proofs::Turns::turn_at, crate::proofs::Turns::turn_none, crate::proofs::TurnBounds::odd_product, crate::proofs::TurnBounds::odd_turn_lem), unfolding(crate::specs::Ln::odd_sum))]
 fn odd_series(w: u64) -> u64
     requires { w ≤ 2 ^ 30 }
     ensures { (result ≡ odd_sum w) × (result ≤ 2 ^ 33) }
 {
     let mut s: u64 = 0;
-    let mut j: u64 = 11;
-    while j > 0 {
-        j -= 1;
+    for j in (0..11).rev() {
         s = M / (2 * j + 1) + w * s / M;
     }
     s
@@ -47,8 +46,8 @@ pub fn ln(v: f32) -> f32
     requires { FromLeast v }
     ensures { result ≡ ln_at v }
 {
-    if v != v {
-        return 0.0f32 / 0.0f32;
+    if v.is_nan() {
+        return f32::NAN;
     }
     let b = f32::to_bits(v);
     if b >= 0x7f80_0000 {
@@ -62,8 +61,8 @@ pub fn ln_1p(t: f32) -> f32
     requires { InUnit t }
     ensures { result ≡ ln1p_at t }
 {
-    if t != t {
-        return 0.0f32 / 0.0f32;
+    if t.is_nan() {
+        return f32::NAN;
     }
     let q = fixed_bits(f32::to_bits(t));
     over_m(odd(2 * (q * 2147483648 / (8589934592 + q))))

@@ -3,10 +3,9 @@ use Prim.Native.Nat.{ℕ, ◌-◌, ◌*◌, ◌≤◌}
 use mathlib.Core.Path.{◌≡◌, refl, ap, ◌∙◌}
 use mathlib.Core.List.{List, ◌++◌}
 use native.Mathlib.Omega.{arith}
-use lib.ListN.{drop, get_or, replicate}
-use lib.Ieee.{Float, nan}
-use Rattle.seq.specs.Tab.{tab}
-use Rattle.seq.specs.Tab.Laws.{length_tab}
+use lib.ListN.{length, drop, replicate}
+use Rattle.std.proofs.Common.{take, length-take-le}
+use lib.Ieee.{Float}
 use Rattle.ieee.specs.Num.{zero32}
 use Rattle.spread.specs.Spreader.{forward_of, inverse_of}
 use Rattle.spread.proofs.Spreading.{copied, length_forward, length_inverse, zeros_left}
@@ -17,13 +16,13 @@ use Rattle.equalize.specs.Sic.{spread_of, carriers_of, result_of, restored, sic_
 use Rattle.equalize.proofs.Stages.{at_front, then, forward_reads, inverted}
 use Rattle.equalize.proofs.SicLaws.{length_carriers, carriers_read, restored_reads}
 
-pub spread_answer : (m : ℕ) (tw xm x₁ x₂ : List Float) → m ≤ 109 → x₁ ≡ tab (2 * m) (λ i. get_or xm i nan) ++ drop (2 * m) (replicate 218 zero32)
+pub spread_answer : (m : ℕ) (tw xm x₁ x₂ : List Float) → m ≤ 109 → 2 * m ≤ length xm → x₁ ≡ take (2 * m) xm ++ drop (2 * m) (replicate 218 zero32)
     → x₂ ≡ forward_of m tw x₁ ++ drop (2 * m) x₁ → x₂ ≡ spread_of m tw xm
 unfolding spread_of
-spread_answer m tw xm x₁ x₂ h e₁ e₂ =
-    then (forward_of m tw) m (tab (2 * m) (λ i. get_or xm i nan)) (forward_of m tw xm) (replicate 218 zero32) x₁ x₂
-    (λ l. forward_reads m tw (tab (2 * m) (λ i. get_or xm i nan) ++ l) xm (copied m xm l))
-    (length_tab _ (2 * m))
+spread_answer m tw xm x₁ x₂ h long e₁ e₂ =
+    then (forward_of m tw) m (take (2 * m) xm) (forward_of m tw xm) (replicate 218 zero32) x₁ x₂
+    (λ l. forward_reads m tw (take (2 * m) xm ++ l) xm (λ j. copied m xm l j long))
+    (length-take-le (2 * m) xm long)
     e₁
     e₂
     ∙ ap (λ (l : List Float). forward_of m tw xm ++ l) (zeros_left (2 * m) (omega arith))

@@ -9,7 +9,7 @@ use lib.Seq.{drop_at, get_or-append-add, get_or-drop}
 use lib.Ieee.{Float, nan}
 use Rattle.dsp.specs.declared.Complex.{Complex}
 use Rattle.dsp.specs.Arithmetic.{complex}
-use Rattle.spread.specs.Flat.{complex_at}
+use Rattle.dsp.specs.Flat.{complex_at}
 use Rattle.spread.specs.Spreader.{forward_of, inverse_of}
 use Rattle.spread.proofs.Pairs.{pairs, length_pairs}
 use Rattle.spread.proofs.Spreading.{transform_reads}

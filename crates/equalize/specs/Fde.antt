@@ -5,7 +5,7 @@ use Rattle.seq.specs.Cat.{cat}
 use Rattle.ieee.specs.Num.{◌⊞◌, ◌⊟◌, ◌⊠◌, zero32}
 use Rattle.dsp.specs.declared.Complex.{Complex}
 use Rattle.dsp.specs.Arithmetic.{norm_sqr, ◌*ᶜ◌}
-use Rattle.spread.specs.Flat.{complex_at, flat}
+use Rattle.dsp.specs.Flat.{complex_at, flat}
 use Rattle.spread.specs.Spreader.{inverse_of}
 use Rattle.equalize.specs.declared.equalizer.Sums.{Sums}
 use Rattle.equalize.specs.declared.filter.Equalized.{Equalized}

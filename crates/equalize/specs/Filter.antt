@@ -7,7 +7,7 @@ use Rattle.ieee.specs.Order.{max_of}
 use Rattle.elementary.specs.Constants.{least}
 use Rattle.dsp.specs.declared.Complex.{Complex}
 use Rattle.dsp.specs.Arithmetic.{conjᶜ, scaleᶜ, ◌*ᶜ◌}
-use Rattle.spread.specs.Flat.{complex_at}
+use Rattle.dsp.specs.Flat.{complex_at}
 
 -- 1e-6 and 1e-3; least is 1e-30
 abbrev pub e_6 : Float

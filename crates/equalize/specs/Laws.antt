@@ -3,7 +3,7 @@ use Rattle.std.specs.Prelude.{ℕ, ◌*◌, ◌<◌, ◌^◌, ◌≡◌, false, 
 use Rattle.std.specs.Float.{binary32}
 use Rattle.std.specs.Float.Ieee.{round}
 use Rattle.elementary.specs.Constants.{least}
-use Rattle.spread.specs.Flat.{complex_at}
+use Rattle.dsp.specs.Flat.{complex_at}
 use Rattle.equalize.specs.Filter.{e_6, e_3, at}
 use Rattle.equalize.specs.Fde.{fde_of}
 use Rattle.equalize.specs.Sic.{sic_of}

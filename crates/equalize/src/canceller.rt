@@ -1,15 +1,14 @@
 // refine.rs, `sic`: the same where the symbols have expected values, which are taken out of the carriers first.
 ghost use Rattle.std.specs.Prelude.{◌≡◌, ◌++◌, ◌*◌, ◌≤◌, length, drop};
-ghost use Rattle.dsp.specs.Arithmetic.{◌-ᶜ◌, ◌*ᶜ◌};
 ghost use Rattle.equalize.specs.Answer.{Room, Equalizes};
 ghost use Rattle.equalize.specs.Sic.{spread_of, added, carriers_of, result_of, restored, sic_of};
 
-use crate::filter::{Equalized, channel, filter, floored, mean, mean_gain, passed};
-use crate::flat::get;
+use crate::filter::{Equalized, filter, floored, mean, mean_gain, passed};
+use crate::received::Received;
 use dsp::Complex;
-use spread::put;
+use spread::Spreader;
 
-// mu, p and q so far.
+// mu, p and q so far. Not `fde`'s sums: that adds both parts of a carrier to p, and the two orders round otherwise.
 #[derive(Clone, Copy)]
 struct Sums {
     mu: f32,
@@ -17,49 +16,49 @@ struct Sums {
     q: f32,
 }
 
-// One carrier more, of channel g, filter w and noise v.
-fn add(s: Sums, g: Complex, w: Complex, v: f32) -> Sums
-    ensures { result ≡ added s g w v }
-{
-    let wg = passed(w, g);
-    Sums {
-        mu: s.mu + wg,
-        p: s.p + wg * wg,
-        q: s.q + w.norm_sqr() * v,
+impl Sums {
+    // One carrier more, of channel g, filter w and noise v.
+    #[tactic(auto, unfolding(crate::specs::Sic::added))]
+    fn add(&mut self, g: Complex, w: Complex, v: f32)
+        ensures { self.new ≡ added self.old g w v }
+    {
+        let wg = passed(w, g);
+        self.mu += wg;
+        self.p += wg * wg;
+        self.q += w.norm_sqr() * v;
+    }
+
+    // mu and var by the sums over m carriers.
+    #[tactic(auto, unfolding(crate::specs::Sic::result_of))]
+    fn result(&self, m: usize, vx: f32) -> Equalized
+        requires { m ≤ 109 }
+        ensures { result ≡ result_of m vx self.now }
+    {
+        let mu = mean_gain(self.mu, m);
+        Equalized {
+            mu,
+            var: floored(vx * (mean(self.p, m) - mu * mu) + mean(self.q, m), mu),
+        }
     }
 }
 
 // xs: what the expected values are on the carriers.
-fn spread_copy(tw: &[f32; 218], m: usize, xm: &[f32]) -> [f32; 218]
-    requires { (m ≤ 109) × (2 * m ≤ length xm.now) }
-    ensures { result ≡ spread_of m tw.now xm.now }
+fn spread_copy(sp: &Spreader, xm: &[f32]) -> [f32; 218]
+    requires { 2 * sp.now.m ≤ length xm.now }
+    ensures { result ≡ spread_of sp.now.m sp.now.tw xm.now }
 {
+    let n = 2 * sp.m;
     let mut xs = [0.0f32; 218];
-    dsp::copy(xm, &mut xs, 2 * m);
-    spread::forward(tw, m, &mut xs);
+    xs[..n].copy_from_slice(&xm[..n]);
+    sp.forward(&mut xs);
     xs
 }
 
-// w (y - g x): a carrier less what x brings to it, filtered.
-fn rest(w: Complex, g: Complex, y: Complex, x: Complex) -> Complex
-    ensures { result ≡ w *ᶜ (y -ᶜ g *ᶜ x) }
-{
-    w.mul(y.sub(g.mul(x)))
-}
-
-// The carriers less what xs brings to them, filtered, to z.
-fn cancel(
-    m: usize,
-    y: &[f32],
-    h: &[f32],
-    v: &[f32],
-    gain: f32,
-    xs: &[f32],
-    vx: f32,
-    z: &mut [f32],
-) -> Sums
-    requires { Room m y.now h.now v.now z.old × (2 * m ≤ length xs.now) }
-    ensures { Equalizes m (carriers_of m y.now h.now v.now gain xs.now vx) result z.old z.new }
+// The carriers less what xs brings to them, filtered, to z. The walk is `equalize`'s with another divisor, another
+// product and other sums: one function for both would have to be told all three.
+fn cancel(m: usize, r: &Received, xs: &[f32], vx: f32, z: &mut [f32]) -> Sums
+    requires { Room m r.now.y.now r.now.h.now r.now.v.now z.old × (2 * m ≤ length xs.now) }
+    ensures { Equalizes m (carriers_of m r.now.y.now r.now.h.now r.now.v.now r.now.gain xs.now vx) result z.old z.new }
 {
     let mut s = Sums {
         mu: 0.0,
@@ -67,25 +66,13 @@ fn cancel(
         q: 0.0,
     };
     for j in 0..m {
-        let g = channel(h, gain, j);
-        let vj = v[j];
-        let w = filter(g, vx * g.norm_sqr() + vj);
-        put(z, j, rest(w, g, get(y, j), get(xs, j)));
-        s = add(s, g, w, vj);
+        let g = r.channel(j);
+        let v = r.v[j];
+        let w = filter(g, vx * g.norm_sqr() + v);
+        (w * (Complex::at(r.y, j) - g * Complex::at(xs, j))).put(z, j);
+        s.add(g, w, v);
     }
     s
-}
-
-// mu and var by the sums.
-fn result(m: usize, vx: f32, s: Sums) -> Equalized
-    requires { m ≤ 109 }
-    ensures { result ≡ result_of m vx s }
-{
-    let mu = mean_gain(s.mu, m);
-    Equalized {
-        mu,
-        var: floored(vx * (mean(s.p, m) - mu * mu) + mean(s.q, m), mu),
-    }
 }
 
 // Each symbol's own expected value goes back in: the filter removed it with the others.
@@ -94,29 +81,19 @@ fn restore(m: usize, mu: f32, xm: &[f32], z: &mut [f32])
     ensures { z.new ≡ restored m mu xm.now z.old ++ drop (2 * m) z.old }
 {
     for j in 0..m {
-        put(z, j, get(z, j).add(get(xm, j).scale(mu)));
+        (Complex::at(z, j) + Complex::at(xm, j).scale(mu)).put(z, j);
     }
 }
 
-// Cells y with channel estimates h and variances v, for symbols of the expected values xm and the variance vx; the despread symbols go to z.
-pub fn sic(
-    tw: &[f32; 218],
-    m: usize,
-    y: &[f32],
-    h: &[f32],
-    v: &[f32],
-    gain: f32,
-    xm: &[f32],
-    vx: f32,
-    z: &mut [f32],
-) -> Equalized
-    requires { Room m y.now h.now v.now z.old × (2 * m ≤ length xm.now) }
-    ensures { Equalizes m (sic_of m tw.now y.now h.now v.now gain xm.now vx) result z.old z.new }
+// For symbols of the expected values xm and the variance vx; the despread symbols go to z.
+pub fn sic(sp: &Spreader, r: &Received, xm: &[f32], vx: f32, z: &mut [f32]) -> Equalized
+    requires { Room sp.now.m r.now.y.now r.now.h.now r.now.v.now z.old × (2 * sp.now.m ≤ length xm.now) }
+    ensures { Equalizes sp.now.m (sic_of sp.now.m sp.now.tw r.now.y.now r.now.h.now r.now.v.now r.now.gain xm.now vx) result z.old z.new }
 {
-    let xs = spread_copy(tw, m, xm);
-    let s = cancel(m, y, h, v, gain, &xs, vx, z);
-    spread::inverse(tw, m, z);
-    let r = result(m, vx, s);
-    restore(m, r.mu, xm, z);
-    r
+    let xs = spread_copy(sp, xm);
+    let s = cancel(sp.m, r, &xs, vx, z);
+    sp.inverse(z);
+    let e = s.result(sp.m, vx);
+    restore(sp.m, e.mu, xm, z);
+    e
 }

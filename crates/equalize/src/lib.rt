@@ -4,8 +4,9 @@
 mod canceller;
 mod equalizer;
 mod filter;
-mod flat;
+mod received;
 
 pub use canceller::sic;
 pub use equalizer::fde;
 pub use filter::Equalized;
+pub use received::Received;

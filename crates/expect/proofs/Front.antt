@@ -1,14 +1,15 @@
 -- A symbol is read from its own stretch: what stands past the numbers read changes nothing. Assumes nothing.
-use Prim.Native.Nat.{ℕ, ◌+◌, ◌*◌, ◌≤◌}
-use mathlib.Core.Path.{◌≡◌, ap, ap₂}
+use Prim.Native.Nat.{ℕ, ◌+◌, ◌-◌, ◌*◌, ◌<◌, ◌≤◌}
+use mathlib.Core.Path.{◌≡◌, refl, ap, ap₂, ◌∙◌}
 use mathlib.Core.List.{List, ◌++◌, append-nil}
 use native.Mathlib.Nat.{mul_assoc}
 use native.Mathlib.Omega.{arith}
-use lib.ListN.{length, drop, drop_of_length-le, get_or-append}
-use lib.Seq.{drop_at}
+use lib.ListN.{length, get_or, take, drop, drop_of_length-le, get_or-append}
+use lib.Seq.{drop_at, get_or-take, get_or-drop}
 use lib.Ieee.{Float, nan}
 use Rattle.seq.specs.Loop.Laws.{for_same}
-use Rattle.seq.specs.Cat.Laws.{cat-same, stretch}
+use Rattle.seq.specs.Cat.{cat}
+use Rattle.seq.specs.Cat.Laws.{cat-same, length_cat, stretch}
 use Rattle.ieee.specs.Num.{◌⊞◌}
 use Rattle.dsp.specs.declared.Complex.{Complex}
 use Rattle.dsp.specs.Arithmetic.{complex, scaleᶜ}
@@ -17,7 +18,9 @@ use Rattle.spread.specs.Flat.{flat}
 use Rattle.spread.specs.Spreader.{twiddles_of, forward_of}
 use Rattle.spread.proofs.Pairs.{length_pairs}
 use Rattle.spread.proofs.Spreading.{length_forward, forward_front}
-use Rattle.expect.specs.Expect.{cell_numbers, mean_at, scaled_cells, row_means, sum_turn, row_sum, spread_means, spread_variance, spread_row, respread}
+use Rattle.expect.specs.declared.Shape.{Shape}
+use Rattle.expect.specs.Expect.{cell_numbers, mean_at, soft_cells, scaled_cells, row_means, sum_turn, row_sum, spread_means, spread_variance, spread_row, respread, expected_of}
+use Rattle.expect.proofs.Laws.{length_row, soft_own}
 
 module _ (dc : ℕ) (soft : List Float) (t : ℕ) where
   pub length_means : length (row_means dc soft t) ≡ 2 * dc
@@ -74,3 +77,47 @@ module _ (dc : ℕ) (soft l : List Float) where
   pub respread_front : (gain : Float) (nsym : ℕ) → nsym * (dc * 3) ≤ length soft → respread dc gain nsym (soft ++ l) ≡ respread dc gain nsym soft
   unfolding respread
   respread_front gain nsym h = cat-same nsym _ _ (λ t u. row_front t (omega (arith, stretch t nsym (dc * 3) (length soft) u h, mul_assoc t dc 3)) gain)
+
+-- the priors followed by anything
+pub soft_front : (unit : List Float) (bps ncell : ℕ) (sl l : List Float) → ncell * bps ≤ length sl → soft_cells unit bps ncell (sl ++ l) ≡ soft_cells unit bps ncell sl
+unfolding soft_cells
+soft_front unit bps ncell sl l h =
+    cat-same ncell _ _
+    (λ cell u. soft_own unit bps (sl ++ l) sl cell (λ b v. get_or-append sl l nan (cell * bps + b) (omega (arith, stretch cell ncell bps (length sl) u h))))
+
+pub expected_front : (s : Shape) (unit sl l : List Float) → s.nsym * s.dc * s.bps ≤ length sl → expected_of s unit (sl ++ l) ≡ expected_of s unit sl
+unfolding expected_of
+expected_front s unit sl l h = rw (soft_front unit s.bps (s.nsym * s.dc) sl l h) refl
+
+-- ---- a symbol by its own stretch
+
+module _ (dc : ℕ) (soft : List Float) (t : ℕ) where
+  abbrev own : List Float
+  own = take (dc * 3) (drop (t * (dc * 3)) soft)
+
+  number : (i k : ℕ) → k < dc * 3 → t * (dc * 3) + k ≡ i → get_or own k nan ≡ get_or soft i nan
+  number i k h q = get_or-take (dc * 3) (drop (t * (dc * 3)) soft) k nan h ∙ (get_or-drop (t * (dc * 3)) soft k nan ∙ ap (λ (x : ℕ). get_or soft x nan) q)
+
+  own_means : row_means dc own 0 ≡ row_means dc soft t
+  unfolding row_means
+  own_means =
+      cat-same dc _ _
+      (λ j u. ap flat (ap₂ complex (number (3 * (t * dc + j)) (3 * (0 * dc + j)) (omega arith) (omega (arith, mul_assoc t dc 3))) (number (3 * (t * dc + j) + 1) (3 * (0 * dc + j) + 1) (omega arith) (omega (arith, mul_assoc t dc 3)))))
+
+  own_sum : row_sum dc own 0 ≡ row_sum dc soft t
+  unfolding row_sum sum_turn
+  own_sum =
+      for_same (sum_turn dc own 0) (sum_turn dc soft t) 0 dc minus_zero
+      (λ j sum u v. ap (λ (x : Float). sum ⊞ x) (number (3 * (t * dc + j) + 2) (3 * (0 * dc + j) + 2) (omega arith) (omega (arith, mul_assoc t dc 3))))
+
+  pub own_row : (gain : Float) → spread_row dc own 0 gain ≡ spread_row dc soft t gain
+  unfolding spread_row spread_means spread_variance
+  own_row gain = rw (own_means, own_sum)
+
+-- the stretch that is lent, with the symbols before it spread
+pub lent_row : (dc : ℕ) (gain : Float) (t : ℕ) (l₀ l row : List Float) → l ≡ cat t (λ i. spread_row dc l₀ i gain) ++ drop (t * (dc * 3)) l₀
+    → row ≡ spread_row dc (take (t * (dc * 3) + dc * 3 - t * (dc * 3)) (drop (t * (dc * 3)) l)) 0 gain → row ≡ spread_row dc l₀ t gain
+lent_row dc gain t l₀ l row e e' =
+    let n : t * (dc * 3) + dc * 3 - t * (dc * 3) ≡ dc * 3 = omega arith in
+    let d : drop (t * (dc * 3)) l ≡ drop (t * (dc * 3)) l₀ = ap (drop (t * (dc * 3))) e ∙ drop_at (cat t (λ i. spread_row dc l₀ i gain)) (drop (t * (dc * 3)) l₀) (t * (dc * 3)) (length_cat (dc * 3) (λ i. spread_row dc l₀ i gain) (length_row dc l₀ gain) t) in
+    e' ∙ rw (n, d) (own_row dc l₀ t gain)

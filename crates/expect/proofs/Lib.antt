@@ -1,5 +1,5 @@
 pub mod Written
 pub mod Front
 pub mod Laws
-pub mod Expected
-pub mod OneList
+pub mod Ways
+pub mod Sums

@@ -1,5 +1,5 @@
 -- What `expect` asks for and what it leaves.
-use Rattle.std.specs.Prelude.{ℕ, ◌+◌, ◌*◌, ◌≤◌, ◌≡◌, true, false, List, ◌++◌, length, drop, Float}
+use Rattle.std.specs.Prelude.{◌*◌, ◌≤◌, ◌≡◌, true, false, List, ◌++◌, length, drop, Float}
 use Rattle.expect.specs.declared.Shape.{Shape}
 use Rattle.expect.specs.Expect.{soft_cells, expected_of}
 
@@ -16,11 +16,3 @@ pub record Expects (s : Shape) (unit slots soft₀ soft₁ out₀ out₁ : List 
   pub expected : out₁ ≡ expected_of s unit slots ++ drop (s.nsym * s.dc * 3) out₀
   pub points : s.spread ≡ true → soft₁ ≡ soft_cells unit s.bps (s.nsym * s.dc) slots ++ drop (s.nsym * s.dc * 3) soft₀
   pub kept : s.spread ≡ false → soft₁ ≡ soft₀
-
--- the cells and, from a on, the priors in slot order, in one list
-pub record FitWithin (s : Shape) (a : ℕ) (w : List Float) : Type 0 where
-  pub carriers : 1 ≤ s.dc
-  pub few : s.dc ≤ 109
-  pub bits : s.bps ≤ 6
-  pub apart : s.nsym * s.dc * 3 ≤ a
-  pub long : a + s.nsym * s.dc * s.bps ≤ length w

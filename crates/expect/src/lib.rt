@@ -3,16 +3,16 @@
 
 mod cells;
 mod symbol;
-mod within;
 
 ghost use Rattle.std.specs.Prelude.{◌≡◌, ◌++◌, ◌*◌, ◌≤◌, length, drop};
-ghost use Rattle.expect.specs.Expect.{respread};
+ghost use Rattle.expect.specs.Expect.{respread, expected_of};
 ghost use Rattle.expect.specs.Contract.{Fit, Expects};
 
 use cells::soft_cells;
+use points::Points;
+use spread::Spreader;
 use symbol::spread_row;
 pub use symbol::{row_means, row_variance};
-pub use within::expect_within;
 
 // Data symbols, cells in each, bits a cell, the points' gain, and whether a symbol's points are spread over its carriers.
 #[derive(Clone, Copy)]
@@ -25,29 +25,42 @@ pub struct Shape {
 }
 
 // The symbols of soft points, each spread.
-fn respread(dc: usize, gain: f32, nsym: usize, soft: &[f32], out: &mut [f32])
-    requires { (1 ≤ dc) × (dc ≤ 109) × (nsym * (dc * 3) ≤ length soft.now) × (nsym * (dc * 3) ≤ length out.old) }
-    ensures { out.new ≡ respread dc gain nsym soft.now ++ drop (nsym * (dc * 3)) out.old }
+fn respread(dc: usize, gain: f32, nsym: usize, out: &mut [f32])
+    requires { (1 ≤ dc) × (dc ≤ 109) × (nsym * (dc * 3) ≤ length out.old) }
+    ensures { out.new ≡ respread dc gain nsym out.old ++ drop (nsym * (dc * 3)) out.old }
 {
-    let tw = spread::twiddles(dc);
+    let sp = Spreader::new(dc);
     let w = dc * 3;
     for t in 0..nsym {
         let at = t * w;
         let to = at + w;
-        spread_row(&tw, dc, gain, t, soft, &mut out[at..to]);
+        spread_row(&sp, gain, &mut out[at..to]);
     }
 }
 
-// What is expected of every cell as sent. The soft points of a spread burst, which its equaliser wants, are left in `soft`.
-pub fn expect(s: Shape, unit: &[f32; 128], slots: &[f32], soft: &mut [f32], out: &mut [f32])
-    requires { Fit s slots.now soft.old out.old }
-    ensures { Expects s unit.now slots.now soft.old soft.new out.old out.new }
+// What is expected of every cell as sent.
+pub fn expected(s: Shape, unit: &Points, slots: &[f32], out: &mut [f32])
+    requires fit { Fit s slots.now out.old out.old }
+    requires bits { unit.now.bps ≡ s.bps }
+    ensures { out.new ≡ expected_of s unit.now.pts slots.now ++ drop (s.nsym * s.dc * 3) out.old }
+{
+    soft_cells(unit, s.nsym * s.dc, slots, out);
+    if s.spread {
+        respread(s.dc, s.gain, s.nsym, out);
+    }
+}
+
+// The same, where the soft points of a spread burst, which its equaliser wants, are left in `soft`.
+pub fn expect(s: Shape, unit: &Points, slots: &[f32], soft: &mut [f32], out: &mut [f32])
+    requires fit { Fit s slots.now soft.old out.old }
+    requires bits { unit.now.bps ≡ s.bps }
+    ensures { Expects s unit.now.pts slots.now soft.old soft.new out.old out.new }
 {
     let ncell = s.nsym * s.dc;
+    let n = ncell * 3;
+    soft_cells(unit, ncell, slots, out);
     if s.spread {
-        soft_cells(unit, s.bps, ncell, slots, soft);
-        respread(s.dc, s.gain, s.nsym, soft, out);
-        return;
+        soft[..n].copy_from_slice(&out[..n]);
+        respread(s.dc, s.gain, s.nsym, out);
     }
-    soft_cells(unit, s.bps, ncell, slots, out);
 }

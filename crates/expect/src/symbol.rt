@@ -1,10 +1,15 @@
 // One symbol of a spread burst: what its soft points say of it as sent.
 ghost use Rattle.std.specs.Prelude.{◌≡◌, ◌++◌, ◌+◌, ◌*◌, ◌≤◌, length, drop};
+ghost use Rattle.std.specs.Prelude.{map};
+ghost use Rattle.std.specs.List.{fold, range_with_len};
+ghost use Rattle.ieee.specs.Num.{◌⊞◌};
+ghost use Rattle.points.specs.Power.{minus_zero};
 ghost use Rattle.spread.specs.Spreader.{twiddles_of};
-ghost use Rattle.expect.specs.Expect.{row_means, row_sum, row_variance, spread_means, spread_variance, scaled_cells, spread_row};
+ghost use Rattle.expect.specs.Expect.{row_means, row_variance, var_at, spread_means, spread_variance, scaled_cells, spread_row};
 
 use crate::cells::put_cell;
 use dsp::Complex;
+use spread::Spreader;
 
 // The means of symbol t, re and im.
 pub fn row_means(dc: usize, soft: &[f32], t: usize, out: &mut [f32])
@@ -22,15 +27,10 @@ pub fn row_means(dc: usize, soft: &[f32], t: usize, out: &mut [f32])
 // The sum of its variances.
 fn row_sum(dc: usize, soft: &[f32], t: usize) -> f32
     requires { (t * dc + dc) * 3 ≤ length soft.now }
-    ensures { result ≡ row_sum dc soft.now t }
+    ensures { result ≡ fold (λ s x. s ⊞ x) minus_zero (map (λ j. var_at soft.now (t * dc + j)) (range_with_len 0 dc)) }
 {
     let base = t * dc;
-    let mut sum = -0.0f32;
-    for j in 0..dc {
-        let cell = base + j;
-        sum += soft[3 * cell + 2];
-    }
-    sum
+    (0..dc).map(|j| soft[3 * (base + j) + 2]).sum()
 }
 
 // Their mean.
@@ -41,21 +41,21 @@ pub fn row_variance(dc: usize, soft: &[f32], t: usize) -> f32
     row_sum(dc, soft, t) / dc as f32
 }
 
-// The means spread, before the gain.
-pub fn spread_means(tw: &[f32; 218], dc: usize, soft: &[f32], t: usize, row: &mut [f32])
-    requires { (tw.now ≡ twiddles_of dc) × (dc ≤ 109) × ((t * dc + dc) * 3 ≤ length soft.now) × (2 * dc ≤ length row.old) }
-    ensures { row.new ≡ spread_means dc soft.now t ++ drop (2 * dc) row.old }
+// The means of the symbol whose soft points these are, spread, before the gain.
+pub fn spread_means(sp: &Spreader, points: &[f32], means: &mut [f32])
+    requires { (sp.now.tw ≡ twiddles_of sp.now.m) × (sp.now.m * 3 ≤ length points.now) × (2 * sp.now.m ≤ length means.old) }
+    ensures { means.new ≡ spread_means sp.now.m points.now 0 ++ drop (2 * sp.now.m) means.old }
 {
-    row_means(dc, soft, t, row);
-    spread::forward(tw, dc, row);
+    row_means(sp.m, points, 0, means);
+    sp.forward(means);
 }
 
 // The variance of each of its cells as sent.
-pub fn spread_variance(dc: usize, gain: f32, soft: &[f32], t: usize) -> f32
-    requires { (dc ≤ 109) × ((t * dc + dc) * 3 ≤ length soft.now) }
-    ensures { result ≡ spread_variance dc soft.now t gain }
+pub fn spread_variance(dc: usize, gain: f32, points: &[f32]) -> f32
+    requires { (dc ≤ 109) × (dc * 3 ≤ length points.now) }
+    ensures { result ≡ spread_variance dc points.now 0 gain }
 {
-    gain * gain * row_sum(dc, soft, t) / dc as f32
+    gain * gain * row_sum(dc, points, 0) / dc as f32
 }
 
 // Cells of the means row times the gain, and of one variance.
@@ -64,18 +64,17 @@ pub fn scaled_cells(dc: usize, gain: f32, mv: f32, row: &[f32], out: &mut [f32])
     ensures { out.new ≡ scaled_cells dc gain mv row.now ++ drop (dc * 3) out.old }
 {
     for j in 0..dc {
-        let x = Complex::new(row[2 * j], row[2 * j + 1]);
-        put_cell(out, j, x.scale(gain), mv);
+        put_cell(out, j, Complex::at(row, j).scale(gain), mv);
     }
 }
 
-// The symbol as sent: its means spread, its variance shared evenly.
-pub fn spread_row(tw: &[f32; 218], dc: usize, gain: f32, t: usize, soft: &[f32], out: &mut [f32])
-    requires { (tw.now ≡ twiddles_of dc) × (dc ≤ 109) × ((t * dc + dc) * 3 ≤ length soft.now) × (length out.old ≡ dc * 3) }
-    ensures { out.new ≡ spread_row dc soft.now t gain }
+// The symbol as sent, in place of its soft points: its means spread, its variance shared evenly.
+pub fn spread_row(sp: &Spreader, gain: f32, row: &mut [f32])
+    requires { (sp.now.tw ≡ twiddles_of sp.now.m) × (length row.old ≡ sp.now.m * 3) }
+    ensures { row.new ≡ spread_row sp.now.m row.old 0 gain }
 {
-    let mut row = [0f32; 218];
-    spread_means(tw, dc, soft, t, &mut row);
-    let mv = spread_variance(dc, gain, soft, t);
-    scaled_cells(dc, gain, mv, &row, out);
+    let mut means = [0f32; 218];
+    spread_means(sp, row, &mut means);
+    let mv = spread_variance(sp.m, gain, row);
+    scaled_cells(sp.m, gain, mv, &means, row);
 }

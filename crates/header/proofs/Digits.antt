@@ -8,11 +8,12 @@ use native.Mathlib.Numerals.{add-one}
 use native.Mathlib.Omega.{arith}
 use lib.Dec.{ltb, lit<}
 use lib.ListN.{length, take, drop, get_or, drop_of_length-le, length-append}
-use lib.Seq.{take-suc, take_all, drop-cons, length-take-le}
+use lib.Seq.{take-suc, length-take-le}
 use lib.Pow.{pow-add, pow_mono, high, low, mod-pow-add}
-use borrow.Author.Tests.{ltb-true, lt-ltb, le-ltb}
+use borrow.Author.Tests.{ltb-true, lt-ltb}
+use Rattle.std.specs.List.{list_all}
 use Rattle.seq.specs.Tab.{tab}
-use Rattle.seq.specs.Tab.Laws.{tab_only, tab_end, length_tabbed}
+use Rattle.seq.specs.Tab.Laws.{tab_only, tab_end}
 use Rattle.header.specs.Bits.{are_bits, value, digits}
 
 pub both : (a b : Bool) → a && b ≡ true → (a ≡ true) × (b ≡ true)
@@ -21,21 +22,10 @@ both false b h = absurd (false≢true h)
 
 -- ---- bits or not
 
-module _ (l : List ℕ) (i : ℕ) where
-  -- the byte at i, tested, and the rest
-  scan : (t : Bool) → i < length l → ltb (get_or l i 0) 2 ≡ t → are_bits (drop i l) ≡ t && are_bits (drop (i + 1) l)
-  unfolding are_bits
-  scan t h e = rw (add-one, drop-cons l i 0 h, e) refl
-
-  pub scan_on : i < length l → get_or l i 0 ≤ 1 → are_bits (drop i l) ≡ are_bits l → are_bits (drop (i + 1) l) ≡ are_bits l
-  scan_on h b k = sym (scan true h (lt-ltb (get_or l i 0) 2 (omega arith))) ∙ k
-
-  pub scan_stop : i < length l → 1 < get_or l i 0 → are_bits (drop i l) ≡ are_bits l → false ≡ are_bits l
-  scan_stop h b k = sym (scan false h (le-ltb (get_or l i 0) 2 b)) ∙ k
-
-  pub scan_end : length l ≤ i → are_bits (drop i l) ≡ are_bits l → true ≡ are_bits l
-  unfolding are_bits
-  scan_end h k = rw (drop_of_length-le l h) at k
+pub as_list_all : (l : List ℕ) → list_all (λ b. ltb b 2) l ≡ are_bits l
+unfolding are_bits
+as_list_all [] = refl
+as_list_all (b ∷ l) = ap (λ (t : Bool). ltb b 2 && t) (as_list_all l)
 
 pub bits_append : (l m : List ℕ) → are_bits l ≡ true → are_bits m ≡ true → are_bits (l ++ m) ≡ true
 unfolding are_bits
@@ -90,9 +80,6 @@ module _ (l : List ℕ) (i v : ℕ) where
       let b : 2 ^ i ≤ 2 ^ 31 = pow_mono {i = i} {j = 31} (omega arith) in
       omega (arith, e, rw n at (value_lt (take i l)))
 
-  pub read_end : length l ≤ i → v ≡ value (take i l) → v ≡ value l
-  read_end h e = e ∙ ap value (take_all i l h)
-
 -- ---- written
 
 pub length_digits : (n v : ℕ) → length (digits n v) ≡ n
@@ -110,10 +97,7 @@ digit_at zero v i h = absurd (omega arith)
 digit_at (suc n) v zero h = ap (λ (k : ℕ). v / 2 ^ k % 2) (let e : n ≡ suc n - 1 - 0 = omega arith in e)
 digit_at (suc n) v (suc i) h = digit_at n v i (omega arith) ∙ ap (λ (k : ℕ). v / 2 ^ k % 2) (let e : n - 1 - i ≡ suc n - 1 - suc i = omega arith in e)
 
--- a list of n bytes with i digits written
-pub push_length : (n v i : ℕ) (l₀ l : List ℕ) → i ≤ n → n ≡ length l₀ → l ≡ tab i (digit n v) ++ drop i l₀ → length l ≡ length l₀
-push_length n v i l₀ l h e k = ap length k ∙ length_tabbed (digit n v) i l₀ (omega arith)
-
+-- a list of n bytes, all n digits written
 pub push_end : (n v i : ℕ) (l₀ l : List ℕ) → i ≤ n → n ≤ i → n ≡ length l₀ → l ≡ tab i (digit n v) ++ drop i l₀ → l ≡ digits (length l₀) v
 push_end n v i l₀ l h h' e f =
     tab_end (digit n v) i n l₀ l h h' f

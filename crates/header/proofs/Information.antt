@@ -10,6 +10,21 @@ use Rattle.header.specs.declared.fields.Header.{Header}
 use Rattle.header.specs.Fields.{bit, mode_bits, mode_from, is_plain, narrow, accepted, data_info, only_info, nsym_in, data_from, only_from}
 use Rattle.header.proofs.Digits.{both}
 
+-- ---- bits of a flag and of the mode
+
+pub bit_le : (b : Bool) → bit b ≤ 1
+bit_le true = omega arith
+bit_le false = omega arith
+
+bit_back : (b : Bool) (n : ℕ) → n ≡ bit b → eqb n 1 ≡ b
+bit_back true n e = eq-eqb n 1 e
+bit_back false n e = ne_eqb n 1 (λ z. omega arith)
+
+bit_forth : (n : ℕ) → n < 2 → bit (eqb n 1) ≡ n
+bit_forth zero h = refl
+bit_forth (suc zero) h = refl
+bit_forth (suc (suc n)) h = absurd (omega arith)
+
 -- ---- accepted fields
 
 pub record Narrow (h : Header) : Type 0 where
@@ -23,6 +38,13 @@ narrow_fields h e =
     let a = both _ _ (both (narrow h) _ e).0 in
     let b = both _ _ a.0 in
     record { constellation = leb-true _ 3 b.0; nsym = leb-true _ 1023 b.1; gain = leb-true _ 3 a.1 }
+
+pub mode_le : (h : Header) → Narrow h → mode_bits h.mode ≤ 14
+unfolding mode_bits
+mode_le h w = omega (arith, w.gain, bit_le h.mode.spread)
+
+-- that fields which are accepted have room, for `grind`
+pub ruleset roomy = (narrow_fields, mode_le, bit_le)
 
 no_extra : (h : Header) → accepted h ≡ true → (h.nsym ≡ 0 → ⊥) → h.extra ≡ 0
 unfolding accepted
@@ -41,25 +63,6 @@ bare h e n =
     let b = both _ _ a.0 in
     let c = both _ _ a.1 in
     record { constellation = eqb-true _ 0 b.0; sparse = not-true _ b.1; spread = not-true _ c.0; gain = eqb-true _ 0 c.1 }
-
--- ---- bits of a flag and of the mode
-
-bit_le : (b : Bool) → bit b ≤ 1
-bit_le true = omega arith
-bit_le false = omega arith
-
-bit_back : (b : Bool) (n : ℕ) → n ≡ bit b → eqb n 1 ≡ b
-bit_back true n e = eq-eqb n 1 e
-bit_back false n e = ne_eqb n 1 (λ z. omega arith)
-
-bit_forth : (n : ℕ) → n < 2 → bit (eqb n 1) ≡ n
-bit_forth zero h = refl
-bit_forth (suc zero) h = refl
-bit_forth (suc (suc n)) h = absurd (omega arith)
-
-pub mode_le : (h : Header) → Narrow h → mode_bits h.mode ≤ 14
-unfolding mode_bits
-mode_le h w = omega (arith, w.gain, bit_le h.mode.spread)
 
 -- ---- data, there and back
 

@@ -22,6 +22,16 @@ apart : (layout : ℕ) → Apart (layout_of layout)
 unfolding layouts normal long normal_wide long_wide slice slim half quarter sixth
 apart = each Apart (omega arith, (omega arith, (omega arith, (omega arith, (omega arith, (omega arith, (omega arith, (omega arith, (omega arith, tt))))))))) (omega arith)
 
+-- a layout's fields are its masks
+module _ (layout : ℕ) (l : Layout) (e : l ≡ layout_of layout) where
+  pub is_data_mask : l.crc_data ≡ data_mask layout
+  unfolding data_mask
+  is_data_mask = rw e refl
+
+  pub is_only_mask : l.crc_ho ≡ only_mask layout
+  unfolding only_mask
+  is_only_mask = rw e refl
+
 module _ (layout : ℕ) where
   pub data_small : data_mask layout < 2 ^ 16
   unfolding data_mask

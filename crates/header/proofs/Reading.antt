@@ -1,19 +1,18 @@
 -- The 48 bits as the code reads them, and what is known of those that read as a header. Assumes nothing.
-use Prim.Native.Nat.{ℕ, ◌-◌, ◌≤◌, ◌<◌}
+use Prim.Native.Nat.{ℕ, ◌≤◌, ◌<◌}
 use mathlib.Core.Path.{◌≡◌, refl, sym, ap, ap₂, ◌∙◌}
 use mathlib.Core.Bool.{Bool, true, false, cond, not, ◌&&◌}
 use mathlib.Core.List.{List}
 use mathlib.Core.Logic.{◌⊎◌, inl, inr}
+use Rattle.std.specs.Prelude.{Ok, Err}
 use native.Mathlib.Omega.{arith}
 use lib.Bits.{bit_xor}
 use lib.Dec.{ltb, eqb}
-use lib.ListN.{length, take, drop, length-drop}
-use lib.Seq.{take_all}
+use lib.ListN.{take, drop}
 use borrow.Author.Tests.{lt-ltb, le-ltb, ltb-false, eq-eqb, ne_eqb, eqb-false}
-use borrow.Rule.Slice.PartMut.{mid_of}
 use Rattle.header.specs.declared.fields.Header.{Header}
-use Rattle.header.specs.declared.answers.Cause.TheVariants.{Layout, Fields, NoSymbols, Check}
-use Rattle.header.specs.declared.answers.Parsed.TheVariants.{Data, HeaderOnly, Refused}
+use Rattle.cause.specs.declared.Cause.TheVariants.{Layout, Fields, NoSymbols, Check}
+use Rattle.header.specs.declared.parse.Parsed.TheVariants.{Data, HeaderOnly}
 use Rattle.header.specs.Bits.{are_bits, value}
 use Rattle.header.specs.Poly.{◌⊕◌}
 use Rattle.header.specs.Check.{crc16_of}
@@ -23,45 +22,46 @@ use Rattle.header.specs.Frame.{info_in, fits, read_refusal, parse_of, Parses}
 
 -- ---- parse_bits, an answer a lemma
 module _ (layout : ℕ) (bits : List ℕ) where
-  pub no_layout : 8 < layout → Parses layout bits (Refused Layout)
+  pub no_layout : 8 < layout → Parses layout bits (Err Layout)
   unfolding parse_of read_refusal
   no_layout a = record { number = rw (lt-ltb 8 layout a) refl; answer = rw (lt-ltb 8 layout a) refl }
 
-  pub no_bits : layout ≤ 8 → are_bits bits ≡ false → Parses layout bits (Refused Fields)
+  pub no_bits : layout ≤ 8 → are_bits bits ≡ false → Parses layout bits (Err Fields)
   unfolding parse_of read_refusal
   no_bits a b = record { number = rw (le-ltb 8 layout a, b) refl; answer = rw (le-ltb 8 layout a, b) refl }
 
   module _ (a : layout ≤ 8) (b : are_bits bits ≡ true) (info : ℕ) (i : info ≡ info_in bits) where
-    pub no_symbols : fits (data_mask layout) bits ≡ true → nsym_in info ≡ 0 → Parses layout bits (Refused NoSymbols)
+    pub no_symbols : fits (data_mask layout) bits ≡ true → nsym_in info ≡ 0 → Parses layout bits (Err NoSymbols)
     unfolding parse_of read_refusal
     no_symbols f n = record { number = rw (le-ltb 8 layout a, b, f, sym i, eq-eqb _ 0 n) refl; answer = rw (le-ltb 8 layout a, b, f, sym i, eq-eqb _ 0 n) refl }
 
-    pub some_data : (h : Header) → fits (data_mask layout) bits ≡ true → (nsym_in info ≡ 0 → ⊥) → h ≡ data_from info → Parses layout bits (Data h)
+    pub some_data : (h : Header) → fits (data_mask layout) bits ≡ true → (nsym_in info ≡ 0 → ⊥) → h ≡ data_from info → Parses layout bits (Ok (Data h))
     unfolding parse_of read_refusal
     some_data h f n e = record { number = rw (le-ltb 8 layout a, b, f, sym i, ne_eqb _ 0 n) refl; answer = rw (le-ltb 8 layout a, b, f, sym i, ne_eqb _ 0 n, e) refl }
 
-    pub header_only_lem : (h : Header) → fits (data_mask layout) bits ≡ false → fits (only_mask layout) bits ≡ true → h ≡ only_from info → Parses layout bits (HeaderOnly h)
+    pub header_only_lem : (h : Header) → fits (data_mask layout) bits ≡ false → fits (only_mask layout) bits ≡ true → h ≡ only_from info → Parses layout bits (Ok (HeaderOnly h))
     unfolding parse_of read_refusal
     header_only_lem h f g e = record { number = rw (le-ltb 8 layout a, b, f, g) refl; answer = rw (le-ltb 8 layout a, b, f, g, sym i, e) refl }
 
-    pub no_check : fits (data_mask layout) bits ≡ false → fits (only_mask layout) bits ≡ false → Parses layout bits (Refused Check)
+    pub no_check : fits (data_mask layout) bits ≡ false → fits (only_mask layout) bits ≡ false → Parses layout bits (Err Check)
     unfolding parse_of read_refusal
     no_check f g = record { number = rw (le-ltb 8 layout a, b, f, g) refl; answer = rw (le-ltb 8 layout a, b, f, g) refl }
 
--- ---- its test of a check, on the last 16 bits as the code takes them
-module _ (bits : List ℕ) (check calc mask m : ℕ) (len : length bits ≡ 48) (k : check ≡ value (mid_of 32 (length bits - 32) bits)) (c : calc ≡ crc16_of (take 32 bits)) (e : m ≡ mask) where
+-- ---- its test of a check, under the mask m
+module _ (bits front back : List ℕ) (check calc mask m x : ℕ) (f : front ≡ take 32 bits) (g : back ≡ drop 32 bits)
+    (k : check ≡ value back) (c : calc ≡ crc16_of front) (e : m ≡ mask) (q : x ≡ bit_xor calc m) where
   last : check ≡ value (drop 32 bits)
-  last = k ∙ ap value (take_all (length bits - 32) (drop 32 bits) (omega (arith, length-drop 32 bits)))
+  last = k ∙ ap value g
 
-  sides : bit_xor calc m ≡ crc16_of (take 32 bits) ⊕ mask
+  sides : x ≡ crc16_of (take 32 bits) ⊕ mask
   unfolding ◌⊕◌
-  sides = ap₂ bit_xor c e
+  sides = q ∙ ap₂ bit_xor (c ∙ ap crc16_of f) e
 
-  pub does_fit : check ≡ bit_xor calc m → fits mask bits ≡ true
+  pub does_fit : check ≡ x → fits mask bits ≡ true
   unfolding fits
   does_fit h = eq-eqb _ _ (sym last ∙ h ∙ sides)
 
-  pub no_fit : (check ≡ bit_xor calc m → ⊥) → fits mask bits ≡ false
+  pub no_fit : (check ≡ x → ⊥) → fits mask bits ≡ false
   unfolding fits
   no_fit h = ne_eqb _ _ (λ z. h (last ∙ z ∙ sym sides))
 

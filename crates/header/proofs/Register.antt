@@ -2,7 +2,8 @@
 use Prim.Native.Nat.{ℕ, zero, suc, ◌+◌, ◌*◌, ◌/◌, ◌%◌, ◌^◌, ◌≤◌, ◌<◌, zero-le}
 use mathlib.Core.Path.{◌≡◌, refl, sym, ap, ap₂, subst, ◌∙◌}
 use mathlib.Core.Bool.{Bool, true, false, cond}
-use mathlib.Core.List.{List, [], ◌∷◌, ◌++◌}
+use mathlib.Core.List.{List, [], ◌∷◌, ◌++◌, append-nil, append_assoc}
+use Rattle.std.specs.List.{fold}
 use native.Mathlib.Nat.{pow-suc, add_comm}
 use native.Mathlib.Omega.{arith}
 use lib.Dec.{lit<, eqb}
@@ -109,6 +110,14 @@ so_far l (suc n) h =
 
 pub registered : (l : List ℕ) → register l (length l) ≡ crc16_of l
 registered l = so_far l (length l) (omega arith) ∙ ap crc16_of (take_all (length l) l (omega arith))
+
+-- the same from what a list in front has left
+folded : (l m : List ℕ) → fold shifted (crc16_of l) m ≡ crc16_of (l ++ m)
+folded l [] = ap crc16_of (sym (append-nil l))
+folded l (b ∷ m) = rw (crc_next l b) (folded (l ++ b ∷ []) m ∙ ap crc16_of (append_assoc l (b ∷ []) m))
+
+pub folded_all : (l : List ℕ) → fold shifted 0xFFFF l ≡ crc16_of l
+folded_all l = rw crc_none (folded [] l)
 
 -- ---- the register's step as the code makes it
 

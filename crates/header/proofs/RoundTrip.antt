@@ -1,16 +1,17 @@
 -- The round trips. Assumes nothing.
 use Prim.Native.Nat.{ℕ, ◌^◌, ◌≤◌, ◌<◌}
 use mathlib.Core.Path.{◌≡◌, refl, sym, ap, ap₂, ◌∙◌}
-use mathlib.Core.Bool.{Bool, true, false, cond, not}
+use mathlib.Core.Bool.{Bool, true, false, cond}
 use mathlib.Core.List.{List, ◌++◌}
 use mathlib.Core.Logic.{◌⊎◌, inl, inr}
+use Rattle.std.specs.Prelude.{Ok}
 use native.Mathlib.Omega.{arith}
-use lib.Dec.{ltb, eqb}
+use lib.Dec.{eqb}
 use lib.ListN.{length, take, drop, length-drop, take-append-drop}
 use lib.Seq.{length-take-le, take_at, drop_at}
-use borrow.Author.Tests.{le-ltb, ltb-false, eq-eqb, ne_eqb, eqb-true, eqb-false}
+use borrow.Author.Tests.{le-ltb, eq-eqb, ne_eqb, eqb-true, eqb-false}
 use Rattle.header.specs.declared.fields.Header.{Header}
-use Rattle.header.specs.declared.answers.Parsed.TheVariants.{Data, HeaderOnly}
+use Rattle.header.specs.declared.parse.Parsed.TheVariants.{Data, HeaderOnly}
 use Rattle.header.specs.Bits.{are_bits, value, digits}
 use Rattle.header.specs.Poly.{◌⊕◌}
 use Rattle.header.specs.Check.{crc16_of}
@@ -23,6 +24,7 @@ use Rattle.header.proofs.Register.{crc_lt}
 use Rattle.header.proofs.Digits.{value_lt, length_digits, bits_digits, value_digits, digits_value, bits_append, bits_take, bits_drop}
 use Rattle.header.proofs.Masks.{data_small, only_small, masks_differ}
 use Rattle.header.proofs.Information.{data_info_lt, data_back, data_nsym, only_info_lt, only_back, data_again, data_accepted, data_kind, only_again, only_accepted, only_kind}
+use Rattle.header.proofs.Framing.{passed}
 use Rattle.header.proofs.Reading.{AsData, AsOnly, either, some_data, header_only_lem}
 
 -- ---- the frame of 32 bits of information
@@ -69,16 +71,7 @@ frame_of_lem mask bits len b f =
     ap₂ ◌++◌ t (ap (λ (l : List ℕ). digits 16 (crc16_of l ⊕ mask)) t ∙ ap (digits 16) (sym (eqb-true _ _ f)) ∙ d) ∙ take-append-drop 32 bits
 
 -- ---- written, then read
-passed : (layout : ℕ) (h : Header) → write_refusal layout h ≡ 0 → (layout ≤ 8) × (accepted h ≡ true)
-unfolding write_refusal
-passed layout h e = go (ltb 8 layout) refl (accepted h) e
-  where
-    go : (a : Bool) → ltb 8 layout ≡ a → (b : Bool) → ◌≡◌ {A = ℕ} (cond a 1 (cond (not b) 10 0)) 0 → (layout ≤ 8) × (b ≡ true)
-    go true q b e = absurd (omega arith)
-    go false q true e = (ltb-false 8 layout q, refl)
-    go false q false e = absurd (omega arith)
-
-write_read : (layout : ℕ) (h : Header) → h.user < 2 ^ 16 → h.extra < 2 ^ 16 → write_refusal layout h ≡ 0 → parse_of layout (bits_of layout h) ≡ as_kind h
+write_read : (layout : ℕ) (h : Header) → h.user < 2 ^ 16 → h.extra < 2 ^ 16 → write_refusal layout h ≡ 0 → parse_of layout (bits_of layout h) ≡ Ok (as_kind h)
 unfolding bits_of info_of mask_of
 write_read layout h u x e = go (eqb h.nsym 0) refl
   where
@@ -88,7 +81,7 @@ write_read layout h u x e = go (eqb h.nsym 0) refl
     ok : accepted h ≡ true
     ok = (passed layout h e).1
 
-    go : (o : Bool) → eqb h.nsym 0 ≡ o → parse_of layout (frame_of (cond o (only_info h) (data_info h)) (cond o (only_mask layout) (data_mask layout))) ≡ cond o (HeaderOnly h) (Data h)
+    go : (o : Bool) → eqb h.nsym 0 ≡ o → parse_of layout (frame_of (cond o (only_info h) (data_info h)) (cond o (only_mask layout) (data_mask layout))) ≡ Ok (cond o (HeaderOnly h) (Data h))
     go true q =
         let s = only_info_lt h ok u x in
         let m = only_small layout in

@@ -1,15 +1,16 @@
 -- The 48 bits of a header, written and read, with document 01's causes for turning a call away.
-use Rattle.std.specs.Prelude.{ℕ, ◌≡◌, Bool, cond, not, ◌&&◌, List, ◌++◌, take, drop, eqb, ltb}
+use Rattle.std.specs.Prelude.{ℕ, ◌≡◌, Bool, cond, not, ◌&&◌, List, ◌++◌, take, drop, eqb, ltb, Result, Ok, Err}
 use Rattle.header.specs.declared.fields.Header.{Header}
-use Rattle.header.specs.declared.answers.Cause.TheVariants.{Layout, Fields, NoSymbols, Check}
-use Rattle.header.specs.declared.answers.Parsed.{Parsed}
-use Rattle.header.specs.declared.answers.Parsed.TheVariants.{Data, HeaderOnly, Refused}
+use Rattle.header.specs.declared.parse.Parsed.{Parsed}
+use Rattle.header.specs.declared.parse.Parsed.TheVariants.{Data, HeaderOnly}
+use Rattle.cause.specs.declared.Cause.{Cause}
+use Rattle.cause.specs.declared.Cause.TheVariants.{Layout, Fields, NoSymbols, Check}
+use Rattle.cause.specs.Causes.{number_of}
 use Rattle.header.specs.Bits.{are_bits, value, digits}
 use Rattle.header.specs.Poly.{◌⊕◌}
 use Rattle.header.specs.Check.{crc16_of}
 use Rattle.header.specs.Masks.{data_mask, only_mask}
 use Rattle.header.specs.Fields.{header_only, accepted, info_of, nsym_in, data_from, only_from}
-use Rattle.header.specs.Causes.{parsed_number}
 
 -- ---- written
 
@@ -54,16 +55,16 @@ read_refusal layout bits =
     0)))
 
 -- parse_header: the data mask first
-unfoldable pub parse_of : ℕ → List ℕ → Parsed
+unfoldable pub parse_of : ℕ → List ℕ → Result Parsed Cause
 parse_of layout bits =
-    cond (ltb 8 layout) (Refused Layout)
-    (cond (not (are_bits bits)) (Refused Fields)
+    cond (ltb 8 layout) (Err Layout)
+    (cond (not (are_bits bits)) (Err Fields)
     (cond (fits (data_mask layout) bits)
-    (cond (eqb (nsym_in (info_in bits)) 0) (Refused NoSymbols) (Data (data_from (info_in bits))))
-    (cond (fits (only_mask layout) bits) (HeaderOnly (only_from (info_in bits)))
-    (Refused Check))))
+    (cond (eqb (nsym_in (info_in bits)) 0) (Err NoSymbols) (Ok (Data (data_from (info_in bits)))))
+    (cond (fits (only_mask layout) bits) (Ok (HeaderOnly (only_from (info_in bits))))
+    (Err Check))))
 
 -- a call that reads
-pub record Parses (layout : ℕ) (bits : List ℕ) (r : Parsed) : Type 0 where
-  pub number : parsed_number r ≡ read_refusal layout bits
+pub record Parses (layout : ℕ) (bits : List ℕ) (r : Result Parsed Cause) : Type 0 where
+  pub number : number_of r ≡ read_refusal layout bits
   pub answer : r ≡ parse_of layout bits

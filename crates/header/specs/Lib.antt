@@ -3,6 +3,5 @@ pub mod Poly
 pub mod Check
 pub mod Masks
 pub mod Fields
-pub mod Causes
 pub mod Frame
 pub mod RoundTrip

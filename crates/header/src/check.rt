@@ -18,11 +18,5 @@ fn shift(crc: u16, b: u8) -> u16
 pub fn crc16(bits: &[u8]) -> u16
     ensures { result ≡ crc16_of bits.now }
 {
-    let mut crc: u16 = 0xFFFF;
-    let mut i = 0;
-    while i < bits.len() {
-        crc = shift(crc, bits[i]);
-        i += 1;
-    }
-    crc
+    bits.iter().fold(0xFFFF, |crc, b| shift(crc, *b))
 }

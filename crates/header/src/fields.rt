@@ -2,7 +2,7 @@
 ghost use Rattle.std.specs.Prelude.{◌≡◌, true};
 ghost use Rattle.header.specs.Fields.{accepted, data_info, only_info, data_from, only_from};
 
-use crate::mode::{DataMode, flag};
+use crate::mode::DataMode;
 
 #[derive(Clone, Copy)]
 pub struct Header {
@@ -21,17 +21,20 @@ pub struct Header {
 
 impl Header {
     // No field is too wide, and part 11 of document 01 accepts them together.
+    #[tactic(auto, unfolding(crate::specs::Fields::accepted))]
     pub(crate) fn accepted(self) -> bool
         ensures { result ≡ accepted self }
     {
-        let narrow = (self.constellation <= 3) & (self.nsym <= 1023) & (self.mode.gain_code <= 3);
+        let narrow = self.constellation <= 3 && self.nsym <= 1023 && self.mode.gain_code <= 3;
         if self.nsym == 0 {
-            let plain = !self.mode.spread & (self.mode.gain_code == 0);
-            return narrow & ((self.constellation == 0) & !self.sparse & plain);
+            let plain = self.mode == DataMode::PLAIN;
+            return narrow && self.constellation == 0 && !self.sparse && plain;
         }
-        narrow & (self.extra == 0)
+        narrow && self.extra == 0
     }
 
+    // The same 32 bits are read in two ways, so that neither is a `From<u32>`: here a data burst's.
+    #[tactic(auto, unfolding(crate::specs::Fields::data_from))]
     pub(crate) fn data_from(info: u32) -> Header
         ensures { result ≡ data_from info }
     {
@@ -45,6 +48,8 @@ impl Header {
         }
     }
 
+    // A header-only burst's.
+    #[tactic(auto, unfolding(crate::specs::Fields::only_from))]
     pub(crate) fn only_from(info: u32) -> Header
         ensures { result ≡ only_from info }
     {
@@ -60,18 +65,20 @@ impl Header {
 }
 
 // The 32 bits of information of a data burst.
+#[tactic(auto, using(crate::proofs::Information::roomy), unfolding(crate::specs::Fields::data_info))]
 pub(crate) fn data_info(h: Header) -> u32
     requires { accepted h ≡ true }
     ensures { result ≡ data_info h }
 {
-    let top = h.constellation as u32 * 1073741824 + h.nsym as u32 * 1048576;
-    top + h.user as u32 * 16 + (h.mode.bits() + flag(h.sparse))
+    let top = u32::from(h.constellation) * 1073741824 + u32::from(h.nsym) * 1048576;
+    top + u32::from(h.user) * 16 + (h.mode.bits() + u32::from(h.sparse))
 }
 
 // The 32 bits of information of a header-only burst.
+#[tactic(auto, unfolding(crate::specs::Fields::only_info))]
 pub(crate) fn only_info(h: Header) -> u32
     ensures { result ≡ only_info h }
 {
-    let e = h.extra as u32;
-    e / 16384 * 1073741824 + e / 16 % 1024 * 1048576 + h.user as u32 * 16 + e % 16
+    let e = u32::from(h.extra);
+    e / 16384 * 1073741824 + e / 16 % 1024 * 1048576 + u32::from(h.user) * 16 + e % 16
 }

@@ -1,17 +1,11 @@
 // How the data symbols of a burst are sent.
-ghost use Rattle.std.specs.Prelude.{◌≡◌, ◌≤◌};
-ghost use Rattle.header.specs.Fields.{bit, mode_bits, mode_from};
+ghost use Rattle.std.specs.Prelude.{◌≡◌};
+ghost use Rattle.header.specs.Fields.{mode_bits, mode_from};
 
-#[derive(Clone, Copy)]
+#[derive(Clone, Copy, PartialEq, Eq)]
 pub struct DataMode {
     pub spread: bool,
     pub gain_code: u8,
-}
-
-pub(crate) fn flag(b: bool) -> u32
-    ensures { (result ≡ bit b) × (result ≤ 1) }
-{
-    if b { 1 } else { 0 }
 }
 
 impl DataMode {
@@ -21,12 +15,15 @@ impl DataMode {
     };
 
     // Three bits of the header, 3..1 of its last four.
+    // The names are those of frame.rs: `From<u32>` would not say which bits of which number.
+    #[tactic(auto, unfolding(crate::specs::Fields::mode_bits))]
     pub(crate) fn bits(self) -> u32
         ensures { result ≡ mode_bits self }
     {
-        flag(self.spread) * 2 + self.gain_code as u32 * 4
+        u32::from(self.spread) * 2 + u32::from(self.gain_code) * 4
     }
 
+    #[tactic(auto, unfolding(crate::specs::Fields::mode_from))]
     pub(crate) fn from_bits(r: u32) -> DataMode
         ensures { result ≡ mode_from r }
     {

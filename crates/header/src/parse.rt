@@ -2,39 +2,47 @@
 ghost use Rattle.std.specs.Prelude.{◌≡◌, length};
 ghost use Rattle.header.specs.Frame.{Parses};
 
-use crate::answers::{Cause, Parsed};
 use crate::bit_list::{all_bits, read_bits};
 use crate::check::crc16;
 use crate::fields::Header;
-use crate::mask::{data_mask, only_mask};
+use cause::Cause;
 
-fn parse_bits(b: &[u8], layout: u32) -> Parsed
+// The burst that a header announces.
+#[derive(Clone, Copy)]
+pub enum Parsed {
+    Data(Header),
+    HeaderOnly(Header),
+}
+
+fn parse_bits(b: &[u8], layout: u32) -> Result<Parsed, Cause>
     requires { length b.now ≡ 48 }
     ensures { Parses layout b.now result }
 {
     if layout > 8 {
-        return Parsed::Refused(Cause::Layout);
+        return Err(Cause::Layout);
     }
     if !all_bits(b) {
-        return Parsed::Refused(Cause::Fields);
+        return Err(Cause::Fields);
     }
-    let info = read_bits(&b[..32]);
-    let check = read_bits(&b[32..]);
-    let calc = crc16(&b[..32]);
-    if check == (calc ^ data_mask(layout)) as u32 {
+    let masks = layout::layout(layout);
+    let (front, back) = b.split_at(32);
+    let info = read_bits(front);
+    let check = read_bits(back);
+    let calc = crc16(front);
+    if check == u32::from(calc ^ masks.crc_data) {
         if info / 1048576 % 1024 == 0 {
-            return Parsed::Refused(Cause::NoSymbols);
+            return Err(Cause::NoSymbols);
         }
-        return Parsed::Data(Header::data_from(info));
+        return Ok(Parsed::Data(Header::data_from(info)));
     }
-    if check == (calc ^ only_mask(layout)) as u32 {
-        return Parsed::HeaderOnly(Header::only_from(info));
+    if check == u32::from(calc ^ masks.crc_ho) {
+        return Ok(Parsed::HeaderOnly(Header::only_from(info)));
     }
-    Parsed::Refused(Cause::Check)
+    Err(Cause::Check)
 }
 
 // The mask that the check fits says whether the burst has data or a header only.
-pub fn parse_header(b: &[u8; 48], layout: u32) -> Parsed
+pub fn parse_header(b: &[u8; 48], layout: u32) -> Result<Parsed, Cause>
     ensures { Parses layout b.now result }
 {
     parse_bits(b, layout)

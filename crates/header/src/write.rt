@@ -1,38 +1,47 @@
 // A header's 48 bits.
 ghost use Rattle.std.specs.Prelude.{◌≡◌, length};
-ghost use Rattle.header.specs.Causes.{written_number};
-ghost use Rattle.header.specs.Frame.{frame_of, Writes};
+ghost use Rattle.cause.specs.Causes.{number_of};
+ghost use Rattle.header.specs.Frame.{frame_of, write_refusal, Writes};
 
-use crate::answers::{Cause, Written};
 use crate::bit_list::push_bits;
 use crate::check::crc16;
 use crate::fields::{Header, data_info, only_info};
-use crate::mask::{data_mask, only_mask};
+use cause::Cause;
 
 // 32 bits of information, then their check under a mask.
 fn put_frame(b: &mut [u8], info: u32, mask: u16)
     requires { length b.old ≡ 48 }
     ensures { b.new ≡ frame_of info mask }
 {
-    push_bits(&mut b[..32], info);
-    let check = crc16(&b[..32]) ^ mask;
-    push_bits(&mut b[32..], check as u32);
+    let (front, back) = b.split_at_mut(32);
+    push_bits(front, info);
+    push_bits(back, u32::from(crc16(front) ^ mask));
+}
+
+// The table's rows for writing.
+#[tactic(auto, unfolding(crate::specs::Frame::write_refusal))]
+fn tested(h: Header, layout: u32) -> Result<(), Cause>
+    ensures { number_of result ≡ write_refusal layout h }
+{
+    if layout > 8 {
+        return Err(Cause::Layout);
+    }
+    if !h.accepted() {
+        return Err(Cause::Fields);
+    }
+    Ok(())
 }
 
 // A refusal leaves the array as it was.
-pub fn header_bits(h: Header, layout: u32, out: &mut [u8; 48]) -> Written
-    ensures { Writes layout h (written_number result) out.old out.new }
+pub fn header_bits(h: Header, layout: u32, out: &mut [u8; 48]) -> Result<(), Cause>
+    ensures { Writes layout h (number_of result) out.old out.new }
 {
-    if layout > 8 {
-        return Written::Refused(Cause::Layout);
-    }
-    if !h.accepted() {
-        return Written::Refused(Cause::Fields);
-    }
+    tested(h, layout)?;
+    let masks = layout::layout(layout);
     if h.nsym == 0 {
-        put_frame(out, only_info(h), only_mask(layout));
-        return Written::Done;
+        put_frame(out, only_info(h), masks.crc_ho);
+    } else {
+        put_frame(out, data_info(h), masks.crc_data);
     }
-    put_frame(out, data_info(h), data_mask(layout));
-    Written::Done
+    Ok(())
 }

@@ -1,8 +1,9 @@
 -- A header as numbers, for C.
-use Rattle.std.specs.Prelude.{ℕ, ◌≡◌, Bool, List, [], ◌∷◌}
+use Rattle.std.specs.Prelude.{ℕ, ◌≡◌, Bool, List, [], ◌∷◌, Result, Ok, Err}
 use Rattle.header.specs.declared.fields.Header.{Header}
-use Rattle.header.specs.declared.answers.Parsed.{Parsed}
-use Rattle.header.specs.declared.answers.Parsed.TheVariants.{Data, HeaderOnly, Refused}
+use Rattle.cause.specs.declared.Cause.{Cause}
+use Rattle.header.specs.declared.parse.Parsed.{Parsed}
+use Rattle.header.specs.declared.parse.Parsed.TheVariants.{Data, HeaderOnly}
 use Rattle.header.specs.Fields.{bit}
 use Rattle.header.specs.Frame.{read_refusal, parse_of}
 
@@ -22,10 +23,10 @@ numbers_of kind h =
     kind ∷ h.constellation ∷ h.nsym ∷ h.user ∷ h.extra ∷ bit h.sparse ∷ bit h.mode.spread ∷ h.mode.gain_code ∷ []
 
 -- data is kind 0, header-only kind 1; a refusal shows nothing
-abbrev pub shown : Parsed → List ℕ → List ℕ
-shown (Data h) old = numbers_of 0 h
-shown (HeaderOnly h) old = numbers_of 1 h
-shown (Refused cause) old = old
+abbrev pub shown : Result Parsed Cause → List ℕ → List ℕ
+shown (Ok (Data h)) old = numbers_of 0 h
+shown (Ok (HeaderOnly h)) old = numbers_of 1 h
+shown (Err cause) old = old
 
 -- a call that reads: the table's number, and the lent array before and after
 pub record Reads (layout : ℕ) (bits : List ℕ) (number : ℕ) (out₀ out₁ : List ℕ) : Type 0 where

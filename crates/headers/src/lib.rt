@@ -1,50 +1,20 @@
-// The header's functions under C names, for the comparison with the Rust. None has a `requires`.
+// The header's functions under C names, for the comparison with the Rust. None has a `requires`. Refusals and kinds are
+// numbers, and a header's fields travel as parameters and as a list: C has no Result and no enum with values.
 #![tactic(auto)]
 
 ghost use Rattle.std.specs.Prelude.{◌≡◌};
-ghost use Rattle.header.specs.Causes.{cause_number, written_number, parsed_number};
 ghost use Rattle.header.specs.Check.{crc16_of};
-ghost use Rattle.header.specs.Fields.{bit};
 ghost use Rattle.header.specs.Frame.{Writes};
 ghost use Rattle.headers.specs.Shown.{header_of, numbers_of, shown, Reads};
 
-use header::{Cause, DataMode, Header, Parsed, Written};
+use cause::Cause;
+use header::{DataMode, Header, Parsed};
 
 #[unsafe(no_mangle)]
 pub extern "C" fn probe_crc16(bits: &[u8]) -> u16
     ensures { result ≡ crc16_of bits.now }
 {
     header::crc16(bits)
-}
-
-fn cause_number(cause: Cause) -> u32
-    ensures { result ≡ cause_number cause }
-{
-    match cause {
-        Cause::Layout => 1,
-        Cause::Fields => 10,
-        Cause::NoSymbols => 9,
-        Cause::Check => 8,
-    }
-}
-
-fn written_number(w: Written) -> u32
-    ensures { result ≡ written_number w }
-{
-    match w {
-        Written::Done => 0,
-        Written::Refused(cause) => cause_number(cause),
-    }
-}
-
-fn parsed_number(p: Parsed) -> u32
-    ensures { result ≡ parsed_number p }
-{
-    match p {
-        Parsed::Data(_) => 0,
-        Parsed::HeaderOnly(_) => 0,
-        Parsed::Refused(cause) => cause_number(cause),
-    }
 }
 
 // 0, or the refusal's number, which leaves the array as it was.
@@ -70,14 +40,7 @@ pub extern "C" fn probe_header_bits(
         sparse,
         mode: DataMode { spread, gain_code },
     };
-    let w = header::header_bits(h, layout, out);
-    written_number(w)
-}
-
-fn flag(b: bool) -> u32
-    ensures { result ≡ bit b }
-{
-    if b { 1 } else { 0 }
+    cause::number(&header::header_bits(h, layout, out))
 }
 
 fn numbers(kind: u32, h: Header) -> [u32; 8]
@@ -85,27 +48,24 @@ fn numbers(kind: u32, h: Header) -> [u32; 8]
 {
     [
         kind,
-        h.constellation as u32,
-        h.nsym as u32,
-        h.user as u32,
-        h.extra as u32,
-        flag(h.sparse),
-        flag(h.mode.spread),
-        h.mode.gain_code as u32,
+        u32::from(h.constellation),
+        u32::from(h.nsym),
+        u32::from(h.user),
+        u32::from(h.extra),
+        u32::from(h.sparse),
+        u32::from(h.mode.spread),
+        u32::from(h.mode.gain_code),
     ]
 }
 
-fn show(p: Parsed, out: &mut [u32; 8])
-    ensures { out.new ≡ shown p out.old }
+// A refusal shows nothing.
+fn show(answer: &Result<Parsed, Cause>, out: &mut [u32; 8])
+    ensures { out.new ≡ shown answer.now out.old }
 {
-    match p {
-        Parsed::Data(h) => {
-            *out = numbers(0, h);
-        }
-        Parsed::HeaderOnly(h) => {
-            *out = numbers(1, h);
-        }
-        Parsed::Refused(_) => {}
+    match answer {
+        Ok(Parsed::Data(h)) => *out = numbers(0, *h),
+        Ok(Parsed::HeaderOnly(h)) => *out = numbers(1, *h),
+        Err(_) => {}
     }
 }
 
@@ -114,7 +74,7 @@ fn show(p: Parsed, out: &mut [u32; 8])
 pub extern "C" fn probe_parse_header(b: &[u8; 48], layout: u32, out: &mut [u32; 8]) -> u32
     ensures { Reads layout b.now result out.old out.new }
 {
-    let p = header::parse_header(b, layout);
-    show(p, out);
-    parsed_number(p)
+    let answer = header::parse_header(b, layout);
+    show(&answer, out);
+    cause::number(&answer)
 }

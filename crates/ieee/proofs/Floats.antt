@@ -1,13 +1,13 @@
 -- Small facts on NaN. Assumes nothing.
-use mathlib.Core.Path.{◌≡◌, refl, sym, ◌∙◌, subst}
-use Prim.Native.Nat.{ℕ, ◌*◌, ◌%◌, ◌^◌, ◌≤◌, ◌<◌}
+use mathlib.Core.Path.{◌≡◌, refl, sym, ap, ◌∙◌, subst}
+use Prim.Native.Nat.{ℕ, ◌+◌, ◌*◌, ◌/◌, ◌%◌, ◌^◌, ◌≤◌, ◌<◌}
 use mathlib.Core.Bool.{Bool, true, false, not, cond}
-use lib.Dec.{T, ltb, lt→ltb, le→leb}
+use lib.Dec.{T, ltb, lt→ltb, le→leb, lit<}
 use lib.IntN.{pos}
-use lib.Ieee.{Float, nan, inf, fin, Format, binary32, binary64, up, down, low, prec, ones, hid, top, odd, units, round, of_bits, is_nan, nan_bits, div, ne, in_float}
-use lib.Ieee.Compare.{nan_differs}
+use lib.Ieee.{Float, nan, inf, fin, Format, binary32, binary64, up, down, low, prec, ones, hid, top, odd, units, round, fits, of_bits, to_bits, is_nan, nan_bits, div, ne, in_float}
+use lib.Ieee.Compare.{nan_differs, differs_from_itself}
 use lib.Arith.{le→nltb}
-use lib.Ieee.Bits.{nan_bits_above, nan_bits_is}
+use lib.Ieee.Bits.{of_bits-to_bits, nan_bits_above, nan_bits_is}
 use lib.Ieee.Fits.{round_is}
 use Rattle.ieee.specs.Narrow.{narrowed}
 
@@ -19,6 +19,18 @@ unfolding is_nan
 is_no_nan nan e = absurd (clash (sym nan_differs ∙ e))
 is_no_nan (inf s) e = tt
 is_no_nan (fin s m d) e = tt
+
+-- a NaN alone differs from itself
+same : (x : Float) (b : Bool) → ne x x ≡ b → T (not (is_nan x)) → b ≡ false
+unfolding is_nan
+same x false e n = refl
+same x true e n = absurd (subst (λ (y : Float). T (not (is_nan y))) (differs_from_itself x (subst T (sym e) tt)) n)
+
+pub nan_ne : (x : Float) → ne x x ≡ is_nan x
+unfolding is_nan
+nan_ne nan = nan_differs
+nan_ne (inf s) = same (inf s) (ne (inf s) (inf s)) refl tt
+nan_ne (fin s m d) = same (fin s m d) (ne (fin s m d) (fin s m d)) refl tt
 
 pub quotient_nan : div binary32 (of_bits binary32 0) (of_bits binary32 0) ≡ nan
 unfolding div of_bits
@@ -53,17 +65,29 @@ narrowed_no_nan (fin s m e) h = round_no_nan binary32 s (m * up e) (down e)
 pub no_nan_pattern : (f : Format) (b : ℕ) → b % top f ≤ ones f * hid f → T (not (nan_bits f b))
 no_nan_pattern f b h = subst (λ (t : Bool). T (not t)) (sym (nan_bits_above f b)) (le→nltb (ones f * hid f) (b % top f) h)
 
-pub nan_pattern : (f : Format) (b : ℕ) → ones f * hid f < b % top f → of_bits f b ≡ nan
+pub only_nan : (x : Float) → T (is_nan x) → x ≡ nan
 unfolding is_nan
-nan_pattern f b h = only (of_bits f b) (subst T (sym (nan_bits_above f b) ∙ nan_bits_is f b) (lt→ltb (ones f * hid f) (b % top f) h))
-  where
-    only : (x : Float) → T (is_nan x) → x ≡ nan
-    only nan t = refl
-    only (inf s) t = absurd t
-    only (fin s m e) t = absurd t
+only_nan nan t = refl
+only_nan (inf s) t = absurd t
+only_nan (fin s m e) t = absurd t
 
-pub no_nan_bits : (b : ℕ) → b % 9223372036854775808 ≤ 9218868437227405312 → T (not (nan_bits binary64 b))
-no_nan_bits b h = no_nan_pattern binary64 b h
+pub nan_pattern : (f : Format) (b : ℕ) → ones f * hid f < b % top f → of_bits f b ≡ nan
+nan_pattern f b h = only_nan (of_bits f b) (subst T (sym (nan_bits_above f b) ∙ nan_bits_is f b) (lt→ltb (ones f * hid f) (b % top f) h))
+
+nan_most : (f : Format) → ones f * hid f < (ones f * hid f + hid f / 2) % top f
+nan_most binary32 = lit< tt
+nan_most binary64 = lit< tt
+
+-- what answers a NaN by the one NaN
+pub nan_answer : (f : Format) (h : Float → Float) (x : Float) → h nan ≡ nan → true ≡ is_nan x → of_bits f (ones f * hid f + hid f / 2) ≡ h x
+nan_answer f h x e t = nan_pattern f (ones f * hid f + hid f / 2) (nan_most f) ∙ sym (ap h (only_nan x (subst T t tt)) ∙ e)
+
+pub number : (x : Float) → false ≡ is_nan x → T (not (is_nan x))
+number x e = subst (λ (t : Bool). T (not t)) e tt
+
+-- the pattern of a number is no NaN's
+pub number_pattern : (f : Format) (x : Float) → T (fits f x) → T (not (is_nan x)) → T (not (nan_bits f (to_bits f x)))
+number_pattern f x held n = subst (λ (t : Bool). T (not t)) (sym (nan_bits_is f (to_bits f x) ∙ ap is_nan (of_bits-to_bits f x held))) n
 
 pub quotient_nan64 : div binary64 (of_bits binary64 0) (of_bits binary64 0) ≡ nan
 unfolding div of_bits

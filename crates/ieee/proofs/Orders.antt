@@ -1,20 +1,18 @@
 -- How floats compare, and what follows for `max`, `clamp`, `abs` and the finite ones. Assumes nothing.
-use Prim.Native.Nat.{ℕ, zero, suc, ◌+◌, ◌*◌, ◌^◌, ◌≤◌, ◌<◌}
-use mathlib.Core.Path.{◌≡◌, refl, sym, ap, ap₂, ◌∙◌, subst}
+use Prim.Native.Nat.{ℕ, ◌+◌, ◌*◌, ◌≤◌, ◌<◌}
+use mathlib.Core.Path.{◌≡◌, refl, sym, subst}
 use mathlib.Core.Logic.{◌⊎◌, inl, inr}
 use mathlib.Core.Bool.{Bool, true, false, not, ◌&&◌, ◌||◌, cond}
-use native.Mathlib.Nat.{le_of_lt, le_of_eq, mul-one, mul-pos, pow-suc, zero-lt-suc, eq-or-lt_of_le}
+use native.Mathlib.Nat.{le_of_lt, le_of_eq, eq-or-lt_of_le}
 use native.Mathlib.Omega.{arith}
 use lib.Dec.{T, ltb, eqb, ltb→lt, eqb→eq}
 use lib.Arith.{le→nltb}
-use lib.Pow.{pow_pos}
-use lib.IntN.{ℤ, pos, negsuc}
-use lib.Ieee.{Float, nan, inf, fin, binary64, up, down, below, level, lt, le, eq, ne, neg, is_nan, fits, of_bits}
+use lib.Ieee.{Float, nan, inf, fin, up, down, below, level, lt, le, eq, ne, is_nan}
 use lib.Ieee.Bits.{is_false}
 use lib.Ieee.Compare.{differs_from_itself}
-use lib.Ieee.Fits.{and_l, and_r, up_pos}
-use borrow.Author.Tests.{ltb-true, ltb-false, lt-ltb, le-ltb, eq-eqb}
-use Rattle.ieee.specs.Num.{zero64}
+use lib.Ieee.Fits.{and_l, and_r}
+use borrow.Author.Tests.{ltb-false, lt-ltb, le-ltb, eq-eqb}
+use Rattle.std.specs.Float.{float_with_sign, float_is_finite}
 use Rattle.ieee.specs.Order.{max_of, clamp_of, abs_of, is_finite, MaxLaws, ClampLaws}
 use Rattle.ieee.proofs.Floats.{is_no_nan}
 
@@ -160,60 +158,16 @@ clamp_laws = record {
     inside x lo hi false true h l = absurd l
     inside x lo hi false false h l = refl
 
--- ---- abs: by the two tests that the code makes
+-- ---- abs and the finite ones: std's words are this library's
 
-pub abs_below : (x : Float) → lt x zero64 ≡ true → neg x ≡ abs_of x
-unfolding lt neg abs_of of_bits
-abs_below nan h = absurd (subst T (sym h) tt)
-abs_below (inf true) h = refl
-abs_below (inf false) h = absurd (subst T (sym h) tt)
-abs_below (fin true m e) h = refl
-abs_below (fin false m e) h = absurd (below_none (m * up e * 1) (0 * 1 * down e) (omega arith) h)
-  where
-    below_none : (a b : ℕ) → b ≤ 0 → ltb a b ≡ true → ⊥
-    below_none a b z t = omega (arith, ltb-true a b t)
+pub abs_is : (x : Float) → float_with_sign false x ≡ abs_of x
+unfolding float_with_sign abs_of
+abs_is nan = refl
+abs_is (inf s) = refl
+abs_is (fin s m e) = refl
 
--- a zero is written in one way
-zero_exponent : (e : ℤ) → T (eqb (up e * down e) 1) → e ≡ pos 0
-zero_exponent (pos zero) h = refl
-zero_exponent (pos (suc k)) h = absurd (omega (arith, eqb→eq (2 ^ suc k * 1) 1 h, mul-one (2 ^ suc k), pow-suc 2 k, pow_pos k))
-zero_exponent (negsuc k) h = absurd (omega (arith, eqb→eq (1 * 2 ^ suc k) 1 h, pow-suc 2 k, pow_pos k))
-
-pub abs_zero : (x : Float) → T (fits binary64 x) → eq x zero64 ≡ true → zero64 ≡ abs_of x
-unfolding eq abs_of of_bits fits
-abs_zero nan f h = absurd (subst T (sym h) tt)
-abs_zero (inf s) f h = absurd (subst T (sym h) tt)
-abs_zero (fin s zero e) f h = ap (fin false 0) (sym (zero_exponent e f))
-abs_zero (fin s (suc m) e) f h =
-    absurd (nonzero (suc m * up e * 1) (0 * 1 * down e) _ (mul-pos (mul-pos (zero-lt-suc m) (up_pos e)) (omega arith)) (omega arith) (subst T (sym h) tt))
-  where
-    nonzero : (a b : ℕ) (q : Bool) → 0 < a → b ≤ 0 → T (eqb a b && q) → ⊥
-    nonzero a b q l z t = omega (arith, eqb→eq a b (and_l (eqb a b) q t))
-
-pub abs_above : (x : Float) → lt x zero64 ≡ false → eq x zero64 ≡ false → x ≡ abs_of x
-unfolding lt eq abs_of of_bits
-abs_above nan h k = refl
-abs_above (inf true) h k = absurd (subst T h tt)
-abs_above (inf false) h k = refl
-abs_above (fin true m e) h k = absurd (unequal (m * up e * 1) (0 * 1 * down e) (omega arith) h k)
-  where
-    unequal : (a b : ℕ) → b ≤ 0 → ltb 0 (a + b) ≡ false → (eqb a b && eqb a 0) ≡ false → ⊥
-    unequal a b z h k =
-        let n : a + b ≤ 0 = ltb-false 0 (a + b) h in
-        subst T (ap₂ ◌&&◌ (sym (eq-eqb a b (omega arith))) (sym (eq-eqb a 0 (omega arith))) ∙ k) tt
-abs_above (fin false m e) h k = refl
-
--- ---- finite: by the two tests that the code makes
-
-pub finite_within : (x : Float) → lt x (inf false) ≡ true → lt (inf true) x ≡ is_finite x
-unfolding is_finite lt
-finite_within nan p = refl
-finite_within (inf true) p = refl
-finite_within (inf false) p = absurd (subst T (sym p) tt)
-finite_within (fin s m e) p = refl
-
-pub finite_beyond : (x : Float) → lt x (inf false) ≡ false → false ≡ is_finite x
-unfolding is_finite lt
-finite_beyond nan p = refl
-finite_beyond (inf s) p = refl
-finite_beyond (fin s m e) p = sym p
+pub finite_is : (x : Float) → float_is_finite x ≡ is_finite x
+unfolding float_is_finite is_finite
+finite_is nan = refl
+finite_is (inf s) = refl
+finite_is (fin s m e) = refl

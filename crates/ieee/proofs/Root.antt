@@ -1,7 +1,7 @@
 -- The integer square root, and the correctly rounded square root of a number of smallest values. Assumes nothing.
 use mathlib.Core.Path.{◌≡◌, refl, sym, ap, ◌∙◌, subst}
 use Prim.Native.Nat.{ℕ, zero, suc, ◌+◌, ◌-◌, ◌*◌, ◌/◌, ◌%◌, ◌^◌, ◌≤◌, ◌<◌, compare, Ordering}
-use native.Mathlib.Nat.{le_trans, le_of_eq, le_of_lt, le_antisymm, le_of_suc-le-suc, lt_irrefl, lt_of_lt_of_le, lt_of_le_of_lt, lt_of_not-le, not-le_of_lt, zero-lt-suc, mul-one, one-mul, mul_comm, mul_assoc, mul_left_comm, mul_right_comm, mul-mul-mul_comm, suc-mul, mul-suc, mul-le-mul_right, mul-le-mul_left, mul-le-mul, mul-lt-mul_of_pos_right, mul-pos, le-div_iff_mul-le, div-lt_iff_lt-mul, mul-div_cancel, pow-succ', mul-add, add-mul, add_assoc, add_comm, add_left_comm, two-mul, div-add-mod', div-div-eq-div-mul, mul-add-div_right}
+use native.Mathlib.Nat.{le_trans, le_of_eq, le_of_lt, le_antisymm, le_of_suc-le-suc, lt_irrefl, lt_of_lt_of_le, lt_of_le_of_lt, lt_of_not-le, not-le_of_lt, mul-one, mul_comm, mul_assoc, mul_left_comm, mul_right_comm, mul-mul-mul_comm, suc-mul, mul-suc, mul-le-mul_right, mul-le-mul_left, mul-le-mul, mul-lt-mul_of_pos_right, mul-pos, le-div_iff_mul-le, div-lt_iff_lt-mul, mul-div_cancel, pow-succ', mul-add}
 use native.Mathlib.Omega.{arith}
 use mathlib.Core.Bool.{Bool, true, false, not, cond}
 use lib.Dec.{T, leb, ltb, leb→le, nleb→lt, ltb→lt, nltb→le}
@@ -208,87 +208,20 @@ parts m d w =
     ∙ ap (λ (z : ℕ). m * (2 ^ d * (z * (2 ^ (w / 2) * 2 ^ (w / 2))))) (par w)
     ∙ scale_up m (2 ^ d) (1 + w % 2) (2 ^ (w / 2))
 
--- ---- r * (r + 1) by two digits of base B
-expand : (P a c : ℕ) → (a * P + c) * (a * P + c) + (a * P + c) ≡ a * a * (P * P) + ((a * c + a * c + a) * P + (c * c + c))
-expand P a c = simp (mul-add, add-mul, mul_assoc, mul_comm, mul_left_comm, add_assoc, add_comm, add_left_comm)
-
+-- ---- the search for the nearest root
 next_mul : (r : ℕ) → r * (r + 1) ≡ r * r + r
 next_mul r = mul-add r r 1 ∙ ap (λ (x : ℕ). r * r + x) (mul-one r)
 
-pub two_digits : (B r : ℕ) → 0 < B → r * (r + 1) / (B * B) ≡ r / B * (r / B) + (2 * (r / B * (r % B)) + r / B + (r % B * (r % B) + r % B) / B) / B
-two_digits B r H =
-    let a = r / B in
-    let c = r % B in
-    let HH : 0 < B * B = mul-pos H H in
-    let e : r * (r + 1) ≡ a * a * (B * B) + ((a * c + a * c + a) * B + (c * c + c)) = next_mul r ∙ ap (λ (x : ℕ). x * x + x) (sym (div-add-mod' r B)) ∙ expand B a c in
-    ap (λ (x : ℕ). x / (B * B)) e
-    ∙ mul-add-div_right HH (a * a) ((a * c + a * c + a) * B + (c * c + c))
-    ∙ ap (λ (x : ℕ). a * a + x)
-    (sym (div-div-eq-div-mul ((a * c + a * c + a) * B + (c * c + c)) B B)
-    ∙ ap (λ (x : ℕ). x / B) (mul-add-div_right H (a * c + a * c + a) (c * c + c) ∙ ap (λ (x : ℕ). x + a + (c * c + c) / B) (sym (two-mul (a * c)))))
-
--- ---- the search for the nearest root
-pub small_root : (r m : ℕ) → r * (r + 1) / 2 ^ 52 < m → m < 2 ^ 54 → r < 2 ^ 53
-small_root r m h k =
-    let a : r * (r + 1) < m * 2 ^ 52 = (div-lt_iff_lt-mul (pow_pos 52)).0 h in
-    let e = next_mul r in
-    sq_lt r (2 ^ 53) (lt_of_le_of_lt {m = r * (r + 1)} (below (r * r) r (r * (r + 1)) e) (bound m (r * (r + 1)) k a))
+pub small_root : (p r s : ℕ) → r * (r + 1) < s → s ≤ 2 ^ p * 2 ^ p → r < 2 ^ p
+small_root p r s h k = sq_lt r (2 ^ p) (go (r * r) (r * (r + 1)) (2 ^ p * 2 ^ p) (next_mul r) h k)
   where
-    below : (x y z : ℕ) → z ≡ x + y → x ≤ z
-    below x y z e = omega arith
+    go : (x z t : ℕ) → z ≡ x + r → z < s → s ≤ t → x < t
+    go x z t e h k = omega arith
 
-    bound : (m n : ℕ) → m < 2 ^ 54 → n < m * 2 ^ 52 → n < 2 ^ 53 * 2 ^ 53
-    bound m n h k = omega arith
-
-pub above_test : (r m : ℕ) → m ≤ r * (r + 1) / 2 ^ 52 → m * 2 ^ 52 ≤ r * (r + 1)
-above_test r m h = (le-div_iff_mul-le (pow_pos 52)).0 h
-
-pub at_least_one : (r m : ℕ) → 0 < m → m * 2 ^ 52 ≤ r * (r + 1) → 1 ≤ r
-at_least_one zero m h k = absurd (no m (0 * (0 + 1)) h k refl)
+-- the nearest root of what has 2 p digits has p, or is 2 ^ p
+pub near_small : (p s r : ℕ) → Near s r → s ≤ 2 ^ p * 2 ^ p → r ≤ 2 ^ p
+near_small p s zero h k = omega arith
+near_small p s (suc a) h k = small_root p a s (below (a * (a + 1)) (suc a * suc a) (omega (arith, sq_suc a, next_mul a)) h.0) k
   where
-    no : (m z : ℕ) → 0 < m → m * 2 ^ 52 ≤ z → z ≡ 0 → ⊥
-    no m z h k e = omega arith
-at_least_one (suc r) m h k = zero-lt-suc r
-
-pub near_of_lem : (r m : ℕ) → 1 ≤ r → m * 2 ^ 52 ≤ r * (r + 1) → (r - 1) * (r - 1 + 1) / 2 ^ 52 < m → Near (m * 2 ^ 52) r
-near_of_lem r m p h k =
-    let a : (r - 1) * (r - 1 + 1) < m * 2 ^ 52 = (div-lt_iff_lt-mul (pow_pos 52)).0 k in
-    let b : r - 1 + 1 ≡ r = omega arith in
-    let d : (r - 1) * (r - 1 + 1) + (r - 1 + 1) ≡ r * r = ap (λ (x : ℕ). (r - 1) * (r - 1 + 1) + x) (sym (one-mul (r - 1 + 1))) ∙ sym (add-mul (r - 1) 1 (r - 1 + 1)) ∙ ap (λ (x : ℕ). x * x) b in
-    let e = next_mul r in
-    let s = m * 2 ^ 52 in
-    (finish ((r - 1) * (r - 1 + 1)) (r - 1 + 1) r (r * r) s a b d, le_trans h (le_of_eq e))
-  where
-    finish : (x y r q s : ℕ) → x < s → y ≡ r → x + y ≡ q → q < s + r
-    finish x y r q s a b d = omega arith
-
--- ---- the same for a number that one word holds
-pub small_root1 : (r s : ℕ) → r * (r + 1) < s → s < 2 ^ 48 → r < 2 ^ 24
-small_root1 r s h k = sq_lt r (2 ^ 24) (go (r * r) (r * (r + 1)) (next_mul r) h k)
-  where
-    go : (x z : ℕ) → z ≡ x + r → z < s → s < 2 ^ 48 → x < 2 ^ 24 * 2 ^ 24
-    go x z e h k = omega arith
-
-pub at_least_one1 : (r s : ℕ) → 0 < s → s ≤ r * (r + 1) → 1 ≤ r
-at_least_one1 zero s h k = absurd (no s (0 * (0 + 1)) h k refl)
-  where
-    no : (s z : ℕ) → 0 < s → s ≤ z → z ≡ 0 → ⊥
-    no s z h k e = omega arith
-at_least_one1 (suc r) s h k = zero-lt-suc r
-
-pub again1 : (r s : ℕ) → 1 ≤ r → s ≤ (r - 1) * r → s ≤ (r - 1) * (r - 1 + 1)
-again1 r s p h = subst (λ (x : ℕ). s ≤ (r - 1) * x) (back r p) h
-  where
-    back : (r : ℕ) → 1 ≤ r → r ≡ r - 1 + 1
-    back r p = omega arith
-
-pub near_of1 : (r s : ℕ) → 1 ≤ r → s ≤ r * (r + 1) → (r - 1) * r < s → Near s r
-near_of1 r s p h k =
-    let d : (r - 1) * r + r ≡ r * r = ap (λ (x : ℕ). (r - 1) * r + x) (sym (one-mul r)) ∙ sym (add-mul (r - 1) 1 r) ∙ ap (λ (x : ℕ). x * r) (back r p) in
-    (finish ((r - 1) * r) (r * r) k d, le_trans h (le_of_eq (next_mul r)))
-  where
-    back : (r : ℕ) → 1 ≤ r → r - 1 + 1 ≡ r
-    back r p = omega arith
-
-    finish : (x q : ℕ) → x < s → x + r ≡ q → q < s + r
-    finish x q a d = omega arith
+    below : (x q : ℕ) → q ≡ x + suc a → q < s + suc a → x < s
+    below x q e h = omega arith

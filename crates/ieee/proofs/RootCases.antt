@@ -7,11 +7,11 @@ use native.Mathlib.Nat.{eq-or-lt_of_le, mod-eq_of_lt, lt_of_lt_of_le, le_of_lt}
 use native.Mathlib.Omega.{arith}
 use lib.Dec.{T, nltb→le, lit≤}
 use lib.Count.{count_leading_zeros}
-use lib.Ieee.{Float, nan, Format, binary32, binary64, prec, emax, low, hid, ones, top, fits, is_nan, nan_bits, of_bits, to_bits, ne}
-use lib.Ieee.Bits.{of_bits-to_bits, to_bits-lt, nan_bits_is, nan_bits_above}
+use lib.Ieee.{Float, nan, Format, binary32, binary64, prec, emax, low, hid, ones, top, fits, nan_bits, of_bits, to_bits, ne}
+use lib.Ieee.Bits.{of_bits-to_bits, to_bits-lt, nan_bits_above}
 use lib.Ieee.Compare.{differs_from_itself}
 use Rattle.ieee.specs.Root.{root_of, rooted}
-use Rattle.ieee.proofs.Floats.{is_no_nan}
+use Rattle.ieee.proofs.Floats.{is_no_nan, number_pattern}
 use Rattle.ieee.proofs.Rooting.{rooted_nan, rooted_plus, rooted_nought, root_below, root_suc, root_zero, shifted_up}
 
 -- ---- a pattern whose value is its own root: both zeros and the infinity
@@ -42,17 +42,17 @@ digits : (f : Format) (b : ℕ) → b < 2 * top f → top f < b → b % top f / 
 digits binary32 b u h e = omega arith
 digits binary64 b u h e = omega arith
 
+pub at_nan : (f : Format) (x : Float) → ne x x ≡ true → x ≡ rooted f x
+at_nan f x t =
+    let e = differs_from_itself x (subst T (sym t) tt) in
+    e ∙ sym (ap (rooted f) e ∙ rooted_nan f)
+
 module _ (f : Format) (x : Float) (held : T (fits f x)) where
   own : Fixed f (to_bits f x) → x ≡ rooted f x
   own e = subst (λ (y : Float). y ≡ rooted f y) (of_bits-to_bits f x held) e
 
   no_nan_bits : ne x x ≡ false → T (not (nan_bits f (to_bits f x)))
-  no_nan_bits e = subst (λ (t : Bool). T (not t)) (sym (nan_bits_is f (to_bits f x) ∙ ap is_nan (of_bits-to_bits f x held))) (is_no_nan x e)
-
-  pub at_nan : ne x x ≡ true → x ≡ rooted f x
-  at_nan t =
-      let e = differs_from_itself x (subst T (sym t) tt) in
-      e ∙ sym (ap (rooted f) e ∙ rooted_nan f)
+  no_nan_bits e = number_pattern f x held (is_no_nan x e)
 
   pub at_zero : to_bits f x ≡ 0 → x ≡ rooted f x
   at_zero e = own (subst (Fixed f) (sym e) (fixed_zero f))
@@ -135,3 +135,21 @@ root_normal f b l h =
     parts : (f : Format) (b : ℕ) → hid f ≤ b → b < ones f * hid f → (b < top f) × (b % top f / hid f ≡ suc (b / hid f - 1)) × (suc (b / hid f - 1) < ones f) × (b / hid f - 1 + low f ≡ prec f - 1 + (b / hid f + (emax f - 2)))
     parts binary32 b l h = (omega arith, omega arith, omega arith, omega arith)
     parts binary64 b l h = (omega arith, omega arith, omega arith, omega arith)
+
+-- ---- the code's words for the format's sizes
+pub leading_hidden : (f : Format) → count_leading_zeros 64 (hid f) ≡ 64 - prec f
+unfolding count_leading_zeros
+leading_hidden binary32 = refl
+leading_hidden binary64 = refl
+
+pub infinity_is : (f : Format) → top f - hid f ≡ ones f * hid f
+infinity_is binary32 = refl
+infinity_is binary64 = refl
+
+pub below_hidden : (f : Format) (b : ℕ) → b / hid f ≡ 0 → b < hid f
+below_hidden binary32 b e = omega arith
+below_hidden binary64 b e = omega arith
+
+pub from_hidden : (f : Format) (b : ℕ) → ¬ (b / hid f ≡ 0) → hid f ≤ b
+from_hidden binary32 b n = omega arith
+from_hidden binary64 b n = omega arith

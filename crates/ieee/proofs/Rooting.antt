@@ -2,32 +2,28 @@
 use mathlib.Core.Path.{◌≡◌, refl, sym, ap, ◌∙◌, subst}
 use mathlib.Core.Logic.{◌⊎◌, inl, inr}
 use Prim.Native.Nat.{ℕ, zero, suc, ◌+◌, ◌-◌, ◌*◌, ◌/◌, ◌%◌, ◌^◌, ◌≤◌, ◌<◌}
-use native.Mathlib.Nat.{le_trans, le_of_eq, le_of_suc-le-suc, lt_irrefl, lt_of_lt_of_le, lt_of_le_of_lt, lt_of_not-le, not-le_of_lt, eq-or-lt_of_le, zero-lt-suc, zero-add, zero-mul, mul-one, mul_assoc, suc-mul, mul-le-mul_right, mul-le-mul_left, mul-lt-mul_of_pos_right, mul-lt-mul_of_pos_left, mul-pos}
+use native.Mathlib.Nat.{le_trans, le_of_eq, le_of_suc-le-suc, le_of_lt, lt_irrefl, lt_of_lt_of_le, lt_of_le_of_lt, lt_of_not-le, not-le_of_lt, eq-or-lt_of_le, zero-lt-suc, zero-add, zero-mul, mul-one, mul_assoc, suc-mul, mul-le-mul_right, mul-le-mul_left, mul-lt-mul_of_pos_right, mul-lt-mul_of_pos_left, mul-le-mul, mul-pos}
 use native.Mathlib.Omega.{arith}
 use mathlib.Core.Bool.{Bool, true, false, not, cond}
-use lib.Dec.{T, leb, le→leb, leb→le, not_T}
+use lib.Dec.{T, leb, le→leb, leb→le, not_T, lit<}
 use lib.Pow.{pow-add, pow_pos, pow_mono, shl_lt}
 use lib.Count.{count_leading_zeros, leading_top}
-use lib.Ieee.{Float, nan, inf, fin, Format, prec, low, hid, ones, top, up, down, units, of_bits, nan_bits, is_nan}
-use lib.Ieee.Bits.{is_true, is_false, nan_bits_is}
+use lib.Ieee.{Float, nan, inf, fin, Format, binary32, binary64, prec, emax, low, hid, ones, top, up, down, units, of_bits, nan_bits}
+use lib.Ieee.Bits.{is_true, is_false}
 use lib.Ieee.Fits.{two, two-le_pos, down_pos}
 use lib.Ieee.Exact.{HasValue}
 use lib.Ieee.Scale.{overflow}
 use Rattle.ieee.specs.Root.{Near, root_of, rooted}
 use Rattle.ieee.proofs.Codec.{twice_hid, encode, decode_zero, decode_suc, decode_inf, no_digits}
-use Rattle.ieee.proofs.Floats.{units_no_nan}
-use Rattle.ieee.proofs.Root.{root_is, rooted_at, parts}
+use Rattle.ieee.proofs.Root.{root_is, rooted_at, parts, near_small}
 
 -- ---- from the nearest whole number to the pattern
 
 -- an odd exponent doubles the significand
-pub some_doubled : (w : ℕ) → 0 < 1 + w % 2
-some_doubled w = omega arith
-
 at_most : (w : ℕ) → 1 + w % 2 ≤ 2
 at_most w = omega arith
 
-pub doubled : (m w : ℕ) → m * (1 + w % 2) ≤ m * 2
+doubled : (m w : ℕ) → m * (1 + w % 2) ≤ m * 2
 doubled m w = mul-le-mul_left m (at_most w)
 
 leads : (S r H : ℕ) → 0 < H → H * H ≤ S → S ≤ r * r + r → H ≤ r
@@ -36,7 +32,26 @@ leads S r H P a b = le_of_suc-le-suc (lt_of_not-le (λ (g : suc r ≤ H). clash 
     clash : suc r * r ≡ r * r + r → suc r * r ≤ H * r → H * r < H * H → ⊥
     clash e h k = omega arith
 
-module _ (f : Format) (m w r : ℕ) (lo : hid f ≤ m) (hi : m < 2 ^ prec f) (near : Near (m * (1 + w % 2) * hid f) r) (small : r ≤ 2 ^ prec f) (fine : r * 2 ^ (w / 2) < overflow f) where
+-- the largest exponent leaves the root below every infinity
+fine_at : (f : Format) (w r : ℕ) → w ≤ 3 * emax f - 2 → r ≤ 2 ^ prec f → r * 2 ^ (w / 2) < overflow f
+fine_at binary32 w r h k = lt_of_le_of_lt (mul-le-mul k (pow_mono (half w h))) (lit< tt)
+  where
+    half : (w : ℕ) → w ≤ 379 → w / 2 ≤ 189
+    half w h = omega arith
+fine_at binary64 w r h k = lt_of_le_of_lt (mul-le-mul k (pow_mono (half w h))) (lit< tt)
+  where
+    half : (w : ℕ) → w ≤ 3067 → w / 2 ≤ 1533
+    half w h = omega arith
+
+finite_at : (f : Format) (w r : ℕ) → w ≤ 3 * emax f - 2 → r ≤ 2 ^ prec f → w / 2 * hid f + r ≤ ones f * hid f
+finite_at binary32 w r h k = omega arith
+finite_at binary64 w r h k = omega arith
+
+-- H and K are the code's two words for the weight of the leading digit
+module _ (f : Format) (m w r H K : ℕ) (H-is : H ≡ hid f) (K-is : K ≡ hid f) (lo : hid f ≤ m) (hi : m < 2 ^ prec f) (few : w ≤ 3 * emax f - 2) (found : Near (m * (1 + w % 2) * H) r) where
+  near : Near (m * (1 + w % 2) * hid f) r
+  near = subst (λ (z : ℕ). Near (m * (1 + w % 2) * z) r) H-is found
+
   positive_prec : 0 < prec f
   positive_prec = two-le_pos (prec f) (two f)
 
@@ -52,19 +67,22 @@ module _ (f : Format) (m w r : ℕ) (lo : hid f ≤ m) (hi : m < 2 ^ prec f) (ne
       (lt_of_lt_of_le (mul-lt-mul_of_pos_right (mul-lt-mul_of_pos_right hi (zero-lt-suc 1)) (pow_pos (prec f - 1)))
       (le_of_eq (mul_assoc (2 ^ prec f) 2 (hid f) ∙ ap (λ (z : ℕ). 2 ^ prec f * z) (sym (twice_hid (prec f) positive_prec)))))
 
+  small : r ≤ 2 ^ prec f
+  small = near_small (prec f) (m * (1 + w % 2) * hid f) r near (le_of_lt S-lt)
+
   root_units : root_of f (m * 2 ^ (prec f - 1 + w)) ≡ units f false r (w / 2)
   root_units = ap (λ (z : ℕ). root_of f z) (parts m (prec f - 1) w) ∙ root_is f (m * (1 + w % 2) * hid f) (w / 2) r S-ge S-lt near
 
   root_bits : of_bits f (w / 2 * hid f + r) ≡ units f false r (w / 2)
   root_bits =
       ap (λ (z : ℕ). of_bits f z) (sym (zero-add (w / 2 * hid f + r)))
-      ∙ encode f false r (w / 2) small (inr (leads (m * (1 + w % 2) * hid f) r (hid f) (pow_pos (prec f - 1)) S-ge near.1)) fine
+      ∙ encode f false r (w / 2) small (inr (leads (m * (1 + w % 2) * hid f) r (hid f) (pow_pos (prec f - 1)) S-ge near.1)) (fine_at f w r few small)
 
-  pub root_pattern : (of_bits f (w / 2 * hid f + r) ≡ root_of f (m * 2 ^ (prec f - 1 + w))) × T (not (nan_bits f (w / 2 * hid f + r)))
-  root_pattern = (
-    root_bits ∙ sym root_units,
-    subst (λ (t : Bool). T (not t)) (sym (nan_bits_is f (w / 2 * hid f + r) ∙ ap is_nan root_bits)) (units_no_nan f false r (w / 2)),
-  )
+  pub root_value : of_bits f (w / 2 * K + r) ≡ root_of f (m * 2 ^ (prec f - 1 + w))
+  root_value = rw K-is (root_bits ∙ sym root_units)
+
+  pub root_finite : w / 2 * K + r ≤ ones f * hid f
+  root_finite = rw K-is (finite_at f w r few small)
 
 -- ---- a pattern's root, by its parts
 is_plus : (a b : ℕ) → b < a → leb a b ≡ false

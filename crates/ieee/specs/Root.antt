@@ -1,4 +1,4 @@
--- The square root: `rooted f x` is what `ieee::sqrt32` and `ieee::sqrt64` answer. `Nearest` says that it is the rounding of IEEE 754.
+-- The square root: `rooted f x` is what `ieee::sqrt` answers at either format. `Nearest` says that it is the rounding of IEEE 754.
 use Prim.Native.Nat.{ℕ, zero, suc, ◌+◌, ◌-◌, ◌*◌, ◌/◌, ◌^◌, ◌≤◌, ◌<◌, compare}
 use Rattle.std.specs.Prelude.{false, cond, leb, Float}
 use Rattle.std.specs.Float.{nan, inf, fin, Format}

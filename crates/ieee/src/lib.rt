@@ -1,15 +1,13 @@
-// IEEE 754 where the language leaves it open: narrowing, square roots, bit patterns, and what depends on how two numbers compare.
+// IEEE 754 where the language leaves it open: narrowing, square roots, and what depends on how two numbers compare.
 #![tactic(auto)]
 
+mod binary;
 mod convert;
 mod newton;
 mod order;
-mod patterns;
-mod root32;
-mod root64;
+mod square_root;
 
+pub use binary::Binary;
 pub use convert::narrow;
-pub use order::{abs64, clamp32, clamp64, is_finite32, max32, max64};
-pub use patterns::{of_bits32, of_bits64, to_bits32, to_bits64};
-pub use root32::sqrt32;
-pub use root64::sqrt64;
+pub use order::{abs, clamp, is_finite, max};
+pub use square_root::sqrt;

@@ -1,72 +1,45 @@
 ghost use Rattle.std.specs.Prelude.{◌≡◌};
 ghost use Rattle.ieee.specs.Order.{max_of, clamp_of, abs_of, is_finite};
 
-pub fn max32(x: f32, y: f32) -> f32
-    ensures { result ≡ max_of x y }
+use crate::binary::Binary;
+
+#[tactic(auto, using(crate::proofs::Floats::nan_ne), unfolding(crate::specs::Order::max_of))]
+pub fn max<T: Binary>(x: T, y: T) -> T
+    ensures { T.value result ≡ max_of (T.value x) (T.value y) }
 {
-    if x < y {
+    if x.is_below(y) {
         return y;
     }
-    if x != x {
+    if x.is_nan() {
         return y;
     }
     x
 }
 
-pub fn max64(x: f64, y: f64) -> f64
-    ensures { result ≡ max_of x y }
+#[tactic(auto, unfolding(crate::specs::Order::clamp_of))]
+pub fn clamp<T: Binary>(x: T, lo: T, hi: T) -> T
+    ensures { T.value result ≡ clamp_of (T.value x) (T.value lo) (T.value hi) }
 {
-    if x < y {
-        return y;
-    }
-    if x != x {
-        return y;
-    }
-    x
-}
-
-pub fn clamp32(x: f32, lo: f32, hi: f32) -> f32
-    ensures { result ≡ clamp_of x lo hi }
-{
-    if x < lo {
+    if x.is_below(lo) {
         return lo;
     }
-    if hi < x {
+    if hi.is_below(x) {
         return hi;
     }
     x
 }
 
-pub fn clamp64(x: f64, lo: f64, hi: f64) -> f64
-    ensures { result ≡ clamp_of x lo hi }
-{
-    if x < lo {
-        return lo;
-    }
-    if hi < x {
-        return hi;
-    }
-    x
-}
-
-pub fn abs64(x: f64) -> f64
+// std's own, with the words of this library's laws in their contracts.
+#[tactic(auto, using(crate::proofs::Orders::abs_is))]
+pub fn abs(x: f64) -> f64
     ensures { result ≡ abs_of x }
 {
-    if x < 0.0 {
-        return -x;
-    }
-    // A negative zero is not below zero.
-    if x == 0.0 {
-        return 0.0;
-    }
-    x
+    x.abs()
 }
 
-pub fn is_finite32(x: f32) -> bool
+#[tactic(auto, using(crate::proofs::Orders::finite_is))]
+pub fn is_finite(x: f32) -> bool
     ensures { result ≡ is_finite x }
 {
-    if x < 1.0 / 0.0 {
-        return x > -1.0 / 0.0;
-    }
-    false
+    x.is_finite()
 }

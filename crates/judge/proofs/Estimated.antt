@@ -10,12 +10,13 @@ use Rattle.dsp.specs.declared.Complex.{Complex}
 use Rattle.soft.specs.Soft.{loud_of}
 use Rattle.load.specs.declared.found.Source.{Source}
 use Rattle.load.specs.Load.{nowhere}
-use Rattle.load.specs.Pilots.{pilots, Loaded}
+use Rattle.load.specs.Pilots.{listed, Loaded}
 use Rattle.est.specs.declared.combine.Estimate.{Estimate}
-use Rattle.est.specs.Estimate.{Estimable, estimate_without}
-use Rattle.judge.specs.declared.estimates.Fitted.{Fitted}
-use Rattle.judge.specs.Cells.{symbol_of, carrier_of, query_of, index_in, own_by, estimate_by, estimate_for, numbers_of}
+use Rattle.est.specs.Estimator.{without_at}
+use Rattle.est.specs.declared.estimator.Estimator.{Estimator}
+use Rattle.judge.specs.Cells.{symbol_of, carrier_of, index_in, own_by, estimate_by, estimate_for, numbers_of}
 use Rattle.judge.specs.Fit.{Fits}
+use Rattle.judge.specs.Symbol.{InOrder, fitted_in}
 use Rattle.judge.proofs.Placed.{Placed}
 use Rattle.judge.proofs.Own.{index_by_carriers}
 
@@ -32,33 +33,24 @@ three (x ∷ y ∷ []) a b d h = absurd (omega arith)
 three (x ∷ y ∷ z ∷ []) a b d h = refl
 three (x ∷ y ∷ z ∷ u ∷ l) a b d h = absurd (omega arith)
 
-module _ (s : Source) (f : Fitted) (pc pg : List ℕ) (pf : List Float) (start : List ℕ) (rf rt : List Float) (fit : Fits s f pc pg pf start rf rt) (cell : ℕ) (at : Placed s cell)
-    (c g : ℕ) (ec : c ≡ carrier_of s cell) (eg : g ≡ symbol_of s cell) where
-  pub estimable : Estimable pc pg pf start rf rt (query_of f c g) f.w
-  estimable = rw (ec, eg) (record {
-    loaded = rw (fit.nc, fit.ng) fit.loaded;
-    asked = record {
-      carrier = rw fit.nc at.carrier;
-      symbol = rw fit.ng at.symbol;
-      width = fit.width;
-      some = fit.some;
-      most = fit.most;
-    };
-    in_rf = rw fit.nc fit.in_rf;
-    in_rt = fit.in_rt;
-  })
+module _ (s : Source) (e : Estimator) (fit : Fits s e) (cell : ℕ) (at : Placed s cell) (c g : ℕ) (ec : c ≡ carrier_of s cell) (eg : g ≡ symbol_of s cell) where
+  pub inside : (c < e.window.nc) × (g < e.window.ng)
+  inside = rw (ec, eg, fit.nc, fit.ng) (at.carrier, at.symbol)
 
-  module _ (x : Complex) (own : ℕ) (e : Estimate) where
-    estimated : own ≡ cond (loud_of x s.es) (index_in (λ i. get_or pc i 0) start c g) nowhere
-        → e ≡ estimate_without s.p_h rf rt (query_of f c g) f.w (pilots pc pg pf (length pc)) start f.scale own
-        → e ≡ estimate_for s (pilots pc pg pf (length pc)) start f rf rt x cell
+  pub in_order : InOrder e.pilots g
+  in_order = starts e.on_grid g inside.1
+
+  module _ (x : Complex) (own : ℕ) (r : Estimate) where
+    estimated : own ≡ cond (loud_of x s.es) (index_in (λ i. get_or e.pilots.c.now i 0) e.pilots.start.now c g) nowhere
+        → r ≡ without_at e c g own
+        → r ≡ estimate_for s (listed e.pilots) e.pilots.start.now (fitted_in e) e.rf.now e.rt.now x cell
     unfolding own_by estimate_by estimate_for
-    estimated eo ee =
-        rw (ee, eo, ec, eg, index_by_carriers pc pg pf start s s.map.nc s.ng fit.loaded (carrier_of s cell) (symbol_of s cell) at.symbol)
+    estimated eo er =
+        rw (er, fit.power, eo, ec, eg, index_by_carriers e.pilots.c.now e.pilots.g.now e.pilots.f.now e.pilots.start.now s e.window.nc e.window.ng e.on_grid (carrier_of s cell) (symbol_of s cell) (rw fit.ng at.symbol))
 
     -- its numbers, written over a stretch of three
     pub estimate_written : (l : List Float) → length l ≡ 3
-        → own ≡ cond (loud_of x s.es) (index_in (λ i. get_or pc i 0) start c g) nowhere
-        → e ≡ estimate_without s.p_h rf rt (query_of f c g) f.w (pilots pc pg pf (length pc)) start f.scale own
-        → set (set (set l 0 e.h.re) 1 e.h.im) 2 e.mse ≡ numbers_of (estimate_for s (pilots pc pg pf (length pc)) start f rf rt x cell)
-    estimate_written l h eo ee = three l e.h.re e.h.im e.mse h ∙ ap numbers_of (estimated eo ee)
+        → own ≡ cond (loud_of x s.es) (index_in (λ i. get_or e.pilots.c.now i 0) e.pilots.start.now c g) nowhere
+        → r ≡ without_at e c g own
+        → set (set (set l 0 r.h.re) 1 r.h.im) 2 r.mse ≡ numbers_of (estimate_for s (listed e.pilots) e.pilots.start.now (fitted_in e) e.rf.now e.rt.now x cell)
+    estimate_written l h eo er = three l r.h.re r.h.im r.mse h ∙ ap numbers_of (estimated eo er)

@@ -6,3 +6,4 @@ mod Rows
 mod Estimated
 mod Equalizing
 pub mod Onward
+mod Held

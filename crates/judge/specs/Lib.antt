@@ -2,3 +2,4 @@ pub mod Cells
 pub mod Judge
 pub mod Fit
 pub mod Upto
+pub mod Symbol

@@ -1,79 +1,57 @@
 // The likelihoods of an unspread symbol.
 ghost use Rattle.std.specs.Prelude.{◌≡◌, ◌+◌, ◌*◌, ◌≤◌, ◌<◌, length};
 ghost use Rattle.seq.specs.Cat.{cat};
-ghost use Rattle.load.specs.Fit.{ncell, places};
-ghost use Rattle.judge.specs.Fit.{FitCells, Readable};
+ghost use Rattle.load.specs.Fit.{ncell};
+ghost use Rattle.judge.specs.Fit.{Fits};
 ghost use Rattle.judge.specs.Cells.{estimate_in};
-ghost use Rattle.judge.specs.Judge.{demapped};
+ghost use Rattle.judge.specs.Symbol.{demapped_by};
 
+use crate::Judge;
 use crate::places::sample_of;
 use demap::{Cell, demap};
 use dsp::Complex;
 use est::Estimate;
-use load::Source;
 
 // Estimate j of a row.
 fn estimate_in(row: &[f32], j: usize) -> Estimate
     requires { 3 * j + 2 < length row.now }
     ensures { result ≡ estimate_in row.now j }
 {
-    let h = Complex::new(row[3 * j], row[3 * j + 1]);
     Estimate {
-        h,
+        h: Complex::new(row[3 * j], row[3 * j + 1]),
         mse: row[3 * j + 2],
     }
 }
 
-fn demap_cell(
-    s: Source,
-    bps: usize,
-    cell: usize,
-    e: Estimate,
-    pts: &[f32; 128],
-    grid: &[f32],
-    cells: &[f32],
-    out: &mut [f32],
-)
-    requires { FitCells s × (cell < ncell s) × (2 * places s ≤ length grid.now) × (ncell s ≤ length cells.now) × (bps ≤ 6) × (length out.old ≡ bps) }
-    ensures { out.new ≡ demapped s pts.now bps grid.now cells.now cell e }
-{
-    let h = e.h;
-    let c = Cell {
-        y: sample_of(s, grid, cell),
-        h,
-        mse: e.mse,
-        sigma2: cells[cell],
-    };
-    demap(c, pts, bps, out);
-}
+impl Judge<'_> {
+    fn demap_cell(&self, cell: usize, e: Estimate, out: &mut [f32])
+        requires fits { Fits self.now.source self.now.estimator }
+        requires cell { cell < ncell self.now.source }
+        requires out { length out.old ≡ self.now.shape.bps }
+        ensures { out.new ≡ demapped_by self.now cell e }
+    {
+        let c = Cell {
+            y: sample_of(self.source, self.grid, cell),
+            h: e.h,
+            mse: e.mse,
+            sigma2: self.cells[cell],
+        };
+        demap(c, self.points, out);
+    }
 
-// Data symbol t, of the estimates in `row`.
-pub fn demap_row(
-    s: Source,
-    bps: usize,
-    t: usize,
-    pts: &[f32; 128],
-    grid: &[f32],
-    cells: &[f32],
-    row: &[f32],
-    out: &mut [f32],
-)
-    requires { FitCells s × Readable s bps t grid.now cells.now × (length row.now ≡ s.dc * 3) × (length out.old ≡ s.dc * bps) }
-    ensures { out.new ≡ cat s.dc (λ j. demapped s pts.now bps grid.now cells.now (t * s.dc + j) (estimate_in row.now j)) }
-{
-    let dc = s.dc;
-    for j in 0..dc {
-        let at = j * bps;
-        let stretch = &mut out[at..at + bps];
-        demap_cell(
-            s,
-            bps,
-            t * dc + j,
-            estimate_in(row, j),
-            pts,
-            grid,
-            cells,
-            stretch,
-        );
+    // Data symbol t, of the estimates in `row`.
+    pub(crate) fn demap_row(&self, t: usize, row: &[f32], out: &mut [f32])
+        requires fits { Fits self.now.source self.now.estimator }
+        requires symbol { self.now.source.map.hdr_end + t < self.now.source.ng }
+        requires lengths { (length row.now ≡ self.now.source.dc * 3) × (length out.old ≡ self.now.source.dc * self.now.shape.bps) }
+        ensures { out.new ≡ cat self.now.source.dc (λ j. demapped_by self.now (t * self.now.source.dc + j) (estimate_in row.now j)) }
+    {
+        let dc = self.source.dc;
+        let bps = self.shape.bps;
+        for j in 0..dc {
+            let at = j * bps;
+            let stretch = &mut out[at..at + bps];
+            self.demap_cell(t * dc + j, estimate_in(row, j), stretch);
+        }
     }
 }

@@ -10,9 +10,6 @@ factors zero b n e h = absurd (omega (arith, zero-mul b))
 factors (suc a) zero n e h = absurd (omega (arith, mul-zero (suc a)))
 factors (suc a) (suc b) n e h = (zero-lt-suc a, zero-lt-suc b)
 
-pub period_pos : (p : Pattern) → Turning p → 0 < p.period
-period_pos p t = (factors p.shift p.period p.step t.turns (omega arith)).1
-
 pub first_below : (p : Pattern) → Turning p → (g : ℕ) → first_pilot p g < p.step
 unfolding first_pilot
 first_below p t g =

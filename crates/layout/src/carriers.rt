@@ -8,6 +8,7 @@ use crate::map::Map;
 
 impl Map {
     // The j-th data carrier of symbol g.
+    #[tactic(auto, using(crate::proofs::Fits::at_fits, crate::proofs::Cells::carrier_low, crate::proofs::Cells::carrier_high, crate::proofs::Cells::carrier_fits,))]
     pub fn data_carrier(self, g: usize, j: usize) -> usize
         requires { FitMap self × (1 ≤ g) × (j < carriers_at self g) }
         ensures { result ≡ data_carrier self g j }
@@ -21,6 +22,7 @@ impl Map {
     }
 
     // How many data carriers of symbol g stand before its data carrier c.
+    #[tactic(auto, using(crate::proofs::Fits::at_fits, crate::proofs::Cells::index_low, crate::proofs::Cells::index_high, crate::proofs::Cells::index_takes,))]
     pub fn cell_index(self, g: usize, c: usize) -> usize
         requires { FitMap self × (1 ≤ g) × (c < self.nc) × (is_pilot self c g ≡ false) }
         ensures { result ≡ cell_index self g c }

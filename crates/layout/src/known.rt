@@ -13,6 +13,7 @@ const PILOT_AMP: f32 = 4.0 / 3.0;
 
 impl Map {
     // BPSK from a hash, boosted.
+    #[tactic(auto, unfolding(crate::specs::Known::pilot_sign))]
     fn pilot_sign(self, c: usize, g: usize) -> f32
         requires { FitMap self × (c < self.nc) × (g < 2 ^ 16) }
         ensures { result ≡ pilot_sign self c g }
@@ -25,6 +26,7 @@ impl Map {
     }
 
     // Known value of pilot cell (c, g), g from 1 on.
+    #[tactic(auto, unfolding(crate::specs::Known::pilot_value))]
     pub fn pilot_value(self, c: usize, g: usize) -> Complex
         requires { FitMap self × (c < self.nc) × (g < 2 ^ 16) }
         ensures { result ≡ pilot_value self c g }
@@ -38,6 +40,7 @@ impl Map {
     }
 
     // Power of one symbol of the robust pattern: unit data cells and boosted pilots.
+    #[tactic(auto, using(crate::proofs::Fits::pilots_le), unfolding(crate::specs::Known::p_sym))]
     pub fn p_sym(self) -> f32
         requires { FitMap self }
         ensures { result ≡ p_sym self }
@@ -48,11 +51,12 @@ impl Map {
     }
 
     // The reference symbol: every carrier, Newman phases, scaled to `p_sym` and boosted.
+    #[tactic(auto, unfolding(crate::specs::Known::b_value, crate::specs::Known::amp_of, crate::specs::Known::phase_of, crate::specs::Fit::FitPhases,))]
     pub fn b_value(self, c: usize, boost: f32) -> Complex
         requires { FitMap self × (c < self.nc) }
         ensures { result ≡ b_value self c boost }
     {
-        let amp = ieee::sqrt32(self.p_sym() / self.nc as f32) * boost;
+        let amp = ieee::sqrt(self.p_sym() / self.nc as f32) * boost;
         let ph = PI * (c * c) as f64 / self.nc as f64;
         let a = std::num::f32_to_f64_with_nan(amp);
         Complex::new(
@@ -62,6 +66,7 @@ impl Map {
     }
 
     // The value of a cell that `is_pilot` says is known.
+    #[tactic(auto, unfolding(crate::specs::Known::known_value))]
     pub fn known(self, c: usize, g: usize, boost: f32) -> Complex
         requires { FitMap self × (c < self.nc) × (g < 2 ^ 16) }
         ensures { result ≡ known_value self boost c g }

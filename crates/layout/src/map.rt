@@ -7,7 +7,7 @@ use crate::layouts::Layout;
 use crate::pattern::Pattern;
 
 // Symbol 0 is all known, the header's symbols (1..hdr_end) have the robust pattern, the data symbols the burst's own. Of the
-// layout it holds what is read for each cell.
+// layout it holds what is read for each cell. `FitMap` is a clause and no ghost field, as `FitLayout` is of a layout.
 #[derive(Clone, Copy)]
 pub struct Map {
     pub nc: usize,
@@ -19,6 +19,7 @@ pub struct Map {
 }
 
 impl Map {
+    #[tactic(auto, unfolding(crate::specs::Maps::map_of))]
     pub fn new(l: Layout, sparse: bool, gain: f32) -> Map
         requires { FitLayout l }
         ensures { result ≡ map_of l sparse gain }
@@ -36,6 +37,7 @@ impl Map {
     }
 
     // Pattern of grid symbol g, from 1 on.
+    #[tactic(auto, unfolding(crate::specs::Maps::pattern_at))]
     pub fn pattern(self, g: usize) -> Pattern
         ensures { result ≡ pattern_at self g }
     {
@@ -47,6 +49,7 @@ impl Map {
     }
 
     // True when cell (c, g) carries a known value.
+    #[tactic(auto, using(crate::proofs::Fits::at_fits), unfolding(crate::specs::Maps::is_pilot))]
     pub fn is_pilot(self, c: usize, g: usize) -> bool
         requires { FitMap self }
         ensures { result ≡ is_pilot self c g }

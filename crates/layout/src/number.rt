@@ -6,7 +6,8 @@ use crate::layouts::{
     HALF, LONG, LONG_WIDE, Layout, NORMAL, NORMAL_WIDE, QUARTER, SIXTH, SLICE, SLIM,
 };
 
-// The layout of a number, in the order of the source's `LAYOUTS`.
+// The layout of a number, in the order of the source's `LAYOUTS`. A number and no enum: it is what a header's field holds and what the C
+// interface passes, and any number from 8 on is the last.
 pub fn layout(number: u32) -> Layout
     ensures { result ≡ layout_of number }
 {

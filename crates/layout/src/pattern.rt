@@ -13,6 +13,7 @@ pub struct Pattern {
 
 impl Pattern {
     // The lowest carrier that the pattern has in symbol g.
+    #[tactic(auto, unfolding(crate::specs::Patterns::first_pilot))]
     pub fn first(self, g: usize) -> usize
         requires { Turning self }
         ensures { result ≡ first_pilot self g }
@@ -20,6 +21,7 @@ impl Pattern {
         self.shift * (g % self.period)
     }
 
+    #[tactic(auto, unfolding(crate::specs::Patterns::on_pattern))]
     pub fn is_pilot(self, nc: usize, c: usize, g: usize) -> bool
         requires { FitPattern self nc }
         ensures { result ≡ on_pattern self nc c g }
@@ -28,6 +30,7 @@ impl Pattern {
     }
 
     // Pilots per symbol on `nc` carriers.
+    #[tactic(auto, unfolding(crate::specs::Patterns::pilots_of))]
     pub fn pilots(self, nc: usize) -> usize
         requires { FitPattern self nc }
         ensures { result ≡ pilots_of self nc }

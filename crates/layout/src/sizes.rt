@@ -23,6 +23,7 @@ impl Layout {
         1 + self.hdr_syms
     }
 
+    #[tactic(auto, unfolding(crate::specs::Sizes::pattern_of))]
     pub fn pattern(self, sparse: bool) -> Pattern
         ensures { result ≡ pattern_of self sparse }
     {
@@ -30,6 +31,7 @@ impl Layout {
     }
 
     // Data carriers per symbol.
+    #[tactic(auto, using(crate::proofs::Fits::pattern_fits, crate::proofs::Fits::pilots_le,), unfolding(crate::specs::Sizes::data_carriers_of,))]
     pub fn data_carriers(self, sparse: bool) -> usize
         requires { FitSizes self }
         ensures { result ≡ data_carriers_of self sparse }

@@ -32,16 +32,16 @@ module _ (ps : List Pilot) where
   module _ (words floats : ℕ) (hw : 2 * n ≤ words) (hf : 3 * n ≤ floats) where
     pub one_more : (i : ℕ) (w : List ℕ) (pf : List Float) (w' : List ℕ) (pf' : List Float) {r : ℕ} → i < n → Filled ps words floats i w pf
         → (r ≡ i + 1) × (w' ≡ stored_w n i (pilot ps i) w) × (pf' ≡ stored_pf i (pilot ps i) pf) → length w' ≡ length w → length pf' ≡ length pf
-        → (r ≡ suc i) × Filled ps words floats (suc i) w' pf'
+        → Filled ps words floats (i + 1) w' pf'
     one_more i w pf w' pf' h f e lw lf =
-        let p = one_pushes h (omega (arith, f.long_w)) (omega (arith, f.long_pf)) e in (
-          e.0 ∙ omega arith,
-          record {
-            long_w = lw ∙ f.long_w;
-            long_pf = lf ∙ f.long_pf;
-            holds = rw (take-suc ps i none h) (p.holds (take i ps) (length-take-le i ps (omega arith)) f.holds);
-          },
-        )
+        let p = one_pushes h (omega (arith, f.long_w)) (omega (arith, f.long_pf)) e in
+        let next : i + 1 ≡ suc i = omega arith in
+        rw next
+        (record {
+          long_w = lw ∙ f.long_w;
+          long_pf = lf ∙ f.long_pf;
+          holds = rw (take-suc ps i none h) (p.holds (take i ps) (length-take-le i ps (omega arith)) f.holds);
+        })
 
   pub all_in : (w : List ℕ) (pf : List Float) (words floats : ℕ) → Filled ps words floats n w pf → records_in n w pf ≡ ps
   unfolding Holds

@@ -1,4 +1,6 @@
 -- Of pilots in order of symbol, the count below a symbol is where its pilots begin. Assumes nothing.
+use Rattle.std.proofs.Common.{List, length, take, count_by, get_or, ap}
+use Rattle.std.proofs.lemmas.List.Sums.{count_by_more_yes, count_by_more_no}
 use Prim.Native.Nat.{ℕ, zero, suc, ◌+◌, ◌≤◌, ◌<◌}
 use mathlib.Core.Bool.{cond}
 use mathlib.Core.Path.{◌≡◌, refl, sym, ◌∙◌}
@@ -6,6 +8,7 @@ use native.Mathlib.Decide.{dec_lt}
 use native.Mathlib.Omega.{arith}
 use lib.Dec.{ltb}
 use borrow.Author.Tests.{lt-ltb, le-ltb}
+use lib.Seq.{take-length}
 use Rattle.seq.specs.Loop.Laws.{for_none, for_next}
 use Rattle.listed.specs.Order.{tally, below}
 
@@ -63,3 +66,21 @@ rise symbol a b (suc n) h =
     cases (symbol n) a
     (λ d. omega (arith, counts symbol a n d, counts symbol b n (omega arith), r))
     (λ d. omega (arith, passes symbol a n d, grows symbol b n, r))
+
+-- counted by a test of each
+module _ (xs : List ℕ) (g : ℕ) where
+  abbrev at : ℕ → ℕ
+  at i = get_or xs i 0
+
+  upto : (n : ℕ) → n ≤ length xs → count_by (λ s. ltb s g) (take n xs) ≡ below at n g
+  upto zero h = sym (none_yet at g)
+  upto (suc n) h =
+      let e : suc n ≡ n + 1 = omega arith in
+      let r = ap (λ (m : ℕ). m + 1) (upto n (omega arith)) in
+      rw e
+      (cases (at n) g
+      (λ d. count_by_more_yes (λ s. ltb s g) xs n 0 (omega arith) (lt-ltb (at n) g d) ∙ r ∙ sym (rw e at (counts at g n d)))
+      (λ d. count_by_more_no (λ s. ltb s g) xs n 0 (omega arith) (le-ltb (at n) g d) ∙ upto n (omega arith) ∙ sym (rw e at (passes at g n d))))
+
+  pub tallied : count_by (λ s. ltb s g) xs ≡ below at (length xs) g
+  tallied = rw (take-length xs) at (upto (length xs) (omega arith))

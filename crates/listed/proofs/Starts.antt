@@ -1,10 +1,10 @@
 -- Pilots in order, with the counts below each symbol, are as the search wants them. Assumes nothing.
 use Prim.Native.Nat.{ℕ, ◌+◌, ◌-◌, ◌*◌, ◌≤◌, ◌<◌}
 use mathlib.Core.Path.{◌≡◌, refl, sym, ap, ◌∙◌}
-use mathlib.Core.List.{List, ◌++◌}
+use mathlib.Core.List.{List}
 use native.Mathlib.Omega.{arith}
 use lib.ListN.{length, get_or, take, drop, length-drop}
-use lib.Seq.{take_at, length-take-le}
+use lib.Seq.{length-take-le}
 use lib.Ieee.{Float}
 use Rattle.seq.specs.Tab.{tab}
 use Rattle.seq.specs.Tab.Laws.{length_tab, get_d_tab}
@@ -85,12 +85,9 @@ module _ (a : Ask) (n : ℕ) (w : List ℕ) (pf : List Float) (k : InLists a n w
   pub of_records : {r : Estimate} → r ≡ by_all a (pilots (take n w) pg (take (3 * n) pf) (length (take n w))) → r ≡ by_all a (records_in n w pf)
   of_records e = rw same_records at e
 
-  pub loaded_in : (start old : List ℕ) → start ≡ tab (a.setting.ng + 1) (below (λ (i : ℕ). get_or pg i 0) (length pg)) ++ drop (a.setting.ng + 1) old
-      → Loaded (take n w) pg (take (3 * n) pf) (take (a.setting.ng + 1) start) a.setting.l.nc a.setting.ng (length (take n w))
-  loaded_in start old e =
-      let ng = a.setting.ng in
-      let f = below (λ (i : ℕ). get_or pg i 0) (length pg) in
-      let t : take (ng + 1) start ≡ tab (ng + 1) f = ap (take (ng + 1)) e ∙ take_at (tab (ng + 1) f) (drop (ng + 1) old) (ng + 1) (length_tab f (ng + 1)) in
+  pub loaded_in : (start : List ℕ) (m : ℕ) → m ≡ a.setting.ng + 1 → start ≡ tab m (below (λ (i : ℕ). get_or pg i 0) (length pg))
+      → Loaded (take n w) pg (take (3 * n) pf) start a.setting.l.nc a.setting.ng (length (take n w))
+  loaded_in start m h e =
       let l : length pg ≡ length (take n w) = long_g ∙ sym long_c in
-      rw (t, l)
-      (loaded (take n w) pg (take (3 * n) pf) a.setting.l.nc ng l (long_f ∙ ap (λ (m : ℕ). 3 * m) (sym long_c)) k.may.carriers k.may.symbols (rw same_records k.ordered))
+      rw (e, h, l)
+      (loaded (take n w) pg (take (3 * n) pf) a.setting.l.nc a.setting.ng l (long_f ∙ ap (λ (m : ℕ). 3 * m) (sym long_c)) k.may.carriers k.may.symbols (rw same_records k.ordered))

@@ -4,7 +4,7 @@
 mod order;
 mod single;
 
-ghost use Rattle.std.specs.Prelude.{◌≡◌, ◌≤◌, length, take};
+ghost use Rattle.std.specs.Prelude.{◌≡◌, length};
 ghost use Rattle.listed.specs.Listed.{Askable, by_all};
 
 use est::Estimate;
@@ -18,23 +18,8 @@ pub fn estimate(ps: &[Pilot], a: Ask, w: &mut [u32], pf: &mut [f32]) -> Estimate
     ensures { result ≡ by_all a ps.now }
 {
     let n = ps.len();
-    let mut i = 0;
-    while i < n {
-        i = put(ps[i], n, i, w, pf);
+    for (i, p) in ps.iter().enumerate() {
+        put(*p, n, i, w, pf);
     }
     single(n, a, w, pf)
-}
-
-// By the first n of an array, which are lent on as the list.
-pub fn estimate_first(
-    ps: [Pilot; 2725],
-    n: usize,
-    a: Ask,
-    w: &mut [u32],
-    pf: &mut [f32],
-) -> Estimate
-    requires { (n ≤ 2725) × Askable a (take n ps) (length w.old) (length pf.old) }
-    ensures { result ≡ by_all a (take n ps) }
-{
-    estimate(&ps[..n], a, w, pf)
 }

@@ -1,13 +1,13 @@
 // The single estimate of pilots that stand in lists of numbers.
 ghost use Rattle.std.specs.Prelude.{◌≡◌, ◌+◌, ◌*◌, length};
-ghost use Rattle.load.specs.Pilots.{Loaded, pilots};
+ghost use Rattle.load.specs.Pilots.{OnGrid, listed};
 ghost use Rattle.listed.specs.Listed.{May, by_all, records_in, InLists};
 
 use crate::order::starts;
-use est::Estimate;
+use est::{Estimate, Estimator};
+use load::Pilots;
 use model::{Model, Setting};
-use near::Query;
-use refine::{carrier_room, fit, symbol_room};
+use refine::fit;
 
 // A cell, carrier c of symbol g, of a burst with this setting.
 #[derive(Clone, Copy)]
@@ -17,74 +17,59 @@ pub struct Ask {
     pub g: usize,
 }
 
-// Room for the starts of the most symbols, 1,084, and the end.
-fn start_room() -> [u32; 1085]
-    ensures { 1085 ≡ length result }
-{
-    [0; 1085]
-}
-
 // The model's correlations go to rf and rt.
-fn with_tables(
-    a: Ask,
-    pc: &[u32],
-    pg: &[u32],
-    pf: &[f32],
-    start: &[u32],
-    rf: &mut [f64],
-    rt: &mut [f64],
-) -> Estimate
-    requires may { May a × Loaded pc.now pg.now pf.now start.now a.setting.l.nc a.setting.ng (length pc.now) }
+fn with_tables(a: Ask, ps: &Pilots, rf: &mut [f64], rt: &mut [f64]) -> Estimate
+    requires may { May a × OnGrid ps.now a.setting.l.nc a.setting.ng }
     requires rf_len { (length rf.old ≡ 2 * a.setting.l.nc + 1) × (length rt.old ≡ 4 * a.setting.l.gw + 1) }
-    ensures { result ≡ by_all a (pilots pc.now pg.now pf.now (length pc.now)) }
+    ensures { result ≡ by_all a (listed ps.now) }
 {
-    let s = a.setting;
     // 3 3: fd[2] of the robust grid and tm[2].
     let m = Model {
         fd: 3,
         tm: 3,
         scale: 1.0,
     };
-    let f = fit(s, m, rf, rt);
-    let u = f.u;
-    let q = Query {
-        c: a.c,
-        g: a.g,
-        lc: u.lc,
-        lg: u.lg,
+    let f = fit(a.setting, m, rf, rt);
+    let e = Estimator {
+        pilots: *ps,
+        rf,
+        rt,
+        scales: f.u,
+        window: f.w,
+        p_h: a.setting.p_h,
+        mse_scale: f.scale,
     };
-    est::estimate(pc, pg, pf, start, rf, rt, q, f.w, s.p_h, f.scale)
+    e.estimate(a.c, a.g)
 }
 
-// The pilots' lists, and where each symbol's begin.
-fn with_starts(a: Ask, pc: &[u32], pg: &[u32], pf: &[f32], start: &[u32]) -> Estimate
-    requires { May a × Loaded pc.now pg.now pf.now start.now a.setting.l.nc a.setting.ng (length pc.now) }
-    ensures { result ≡ by_all a (pilots pc.now pg.now pf.now (length pc.now)) }
+fn with_pilots(a: Ask, ps: &Pilots) -> Estimate
+    requires { May a × OnGrid ps.now a.setting.l.nc a.setting.ng }
+    ensures { result ≡ by_all a (listed ps.now) }
 {
     let l = a.setting.l;
-    let x = 2 * l.nc + 1;
-    let y = 4 * l.gw + 1;
-    let mut rf = carrier_room();
-    let mut rt = symbol_room();
-    with_tables(a, pc, pg, pf, start, &mut rf[..x], &mut rt[..y])
+    // Room for the most carriers, 109, and the most symbols, 12 to each side.
+    let mut rf = [0f64; 219];
+    let mut rt = [0f64; 49];
+    let rf = &mut rf[..2 * l.nc + 1];
+    let rt = &mut rt[..4 * l.gw + 1];
+    with_tables(a, ps, rf, rt)
 }
 
 // n pilots: carriers from 0 on, symbols from n on, three numbers a pilot.
-fn from_lists(n: usize, a: Ask, w: &[u32], pf: &[f32]) -> Estimate
+pub fn single(n: usize, a: Ask, w: &[u32], pf: &[f32]) -> Estimate
     requires { InLists a n w.now pf.now }
     ensures { result ≡ by_all a (records_in n w.now pf.now) }
 {
-    let ends = a.setting.ng + 1;
-    let e = 2 * n;
-    let mut start = start_room();
-    starts(&w[n..e], ends, &mut start);
-    with_starts(a, &w[..n], &w[n..e], &pf[..3 * n], &start[..ends])
-}
-
-// Of lists that are lent to be written: `estimate` hands on what it has.
-pub fn single(n: usize, a: Ask, w: &mut [u32], pf: &mut [f32]) -> Estimate
-    requires { InLists a n w.old pf.old }
-    ensures { result ≡ by_all a (records_in n w.old pf.old) }
-{
-    from_lists(n, a, w, pf)
+    let g = &w[n..2 * n];
+    // Room for the starts of the most symbols, 1,084, and the end.
+    let mut start = [0u32; 1085];
+    let start = &mut start[..a.setting.ng + 1];
+    starts(g, start);
+    let ps = Pilots {
+        c: &w[..n],
+        g,
+        f: &pf[..3 * n],
+        start,
+    };
+    with_pilots(a, &ps)
 }

@@ -4,5 +4,3 @@ pub mod Own
 pub mod Sources
 pub mod Storing
 mod Turns
-mod Marks
-mod OneList

@@ -1,7 +1,7 @@
 -- The work lists hold one pilot more, and at the end all of them. Assumes nothing.
 use Prim.Native.Nat.{ℕ, ◌+◌, ◌*◌, ◌≤◌, ◌<◌}
 use mathlib.Core.Path.{◌≡◌, refl, sym, ◌∙◌}
-use mathlib.Core.List.{List, [], ◌∷◌, ◌++◌, append-nil}
+use mathlib.Core.List.{List, [], ◌∷◌, ◌++◌}
 use native.Mathlib.Decide.{dec_lt}
 use native.Mathlib.Nat.{mul-le-mul}
 use native.Mathlib.Omega.{arith}
@@ -78,9 +78,6 @@ module _ (n i : ℕ) (p : Pilot) (w : List ℕ) (pf : List Float) (h : i < n) (h
 pub one_pushes : {n i r : ℕ} {p : Pilot} {w w' : List ℕ} {pf pf' : List Float} → i < n → 2 * n ≤ length w → 3 * n ≤ length pf
     → (r ≡ i + 1) × (w' ≡ stored_w n i p w) × (pf' ≡ stored_pf i p pf) → Pushes n i (p ∷ []) w pf w' pf' r
 one_pushes {n} {i} {r} {p} {w} {w'} {pf} h hw hp e = rw (e.0, e.1, e.2) (put_pushes n i p w pf h hw hp)
-
-pub none_pushes : (n i : ℕ) (w : List ℕ) (pf : List Float) → Pushes n i [] w pf w pf i
-none_pushes n i w pf = record { count = omega arith; holds = λ ps e h. rw (append-nil ps) h; past = λ k b. refl }
 
 module _ (s : Source) (grid : List Float) (value : ℕ → ℕ → Found) (w : List ℕ) (pf : List Float) where
   abbrev np : ℕ

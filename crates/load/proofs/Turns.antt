@@ -69,7 +69,10 @@ module _ (s : Source) (grid : List Float) (value : ℕ → ℕ → Found) where
     }
 
     -- all carriers were visited, and the next start is written
-    module _ (np : ℕ) (w : List ℕ) (pf : List Float) (hg : g < s.ng) (room : 2 * places s + s.ng + 1 ≤ length w) (i : InRow g s.map.nc w pf np) where
+    module _ (c np : ℕ) (w : List ℕ) (pf : List Float) (hg : g < s.ng) (room : 2 * places s + s.ng + 1 ≤ length w) (ended : s.map.nc ≤ c) (i₀ : InRow g c w pf np) where
+      i : InRow g s.map.nc w pf np
+      i = let e : c ≡ s.map.nc = omega (arith, i₀.within, ended) in rw e at i₀
+
       few : length (loaded s.map.nc grid value (g + 1)) ≤ places s
       unfolding start_of
       few = start_within s.map.nc grid value (g + 1) s.ng (omega arith)

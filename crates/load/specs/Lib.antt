@@ -4,4 +4,3 @@ pub mod Load
 pub mod Fit
 pub mod Work
 pub mod Laws
-pub mod OneList

@@ -4,6 +4,7 @@ use Rattle.std.specs.Float.{nan}
 use Rattle.dsp.specs.Arithmetic.{complex}
 use Rattle.seq.specs.Tab.{tab}
 use Rattle.load.specs.declared.pilot.Pilot.{Pilot}
+use Rattle.load.specs.declared.pilots.Pilots.{Pilots}
 
 -- pilot i of the three lists
 abbrev pub pilot_at : List ℕ → List ℕ → List Float → ℕ → Pilot
@@ -29,3 +30,10 @@ pub record Loaded (pc pg : List ℕ) (pf : List Float) (start : List ℕ) (nc ng
   pub upto : (i : ℕ) → i < n → i < get_or start (get_or pg i 0 + 1) 0
   pub order : (a b : ℕ) → a ≤ b → b ≤ ng → get_or start a 0 ≤ get_or start b 0
   pub whole : get_or start ng 0 ≡ n
+
+-- what is lent holds these pilots, and they are in order on a grid of nc carriers and ng symbols
+abbrev pub listed : Pilots → List Pilot
+listed ps = pilots ps.c.now ps.g.now ps.f.now (length ps.c.now)
+
+abbrev pub OnGrid : Pilots → ℕ → ℕ → Type 0
+OnGrid ps nc ng = Loaded ps.c.now ps.g.now ps.f.now ps.start.now nc ng (length ps.c.now)

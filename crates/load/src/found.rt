@@ -7,7 +7,8 @@ use dsp::Complex;
 use layout::Map;
 use soft::loud;
 
-// A value and the variance of `y - h * x`: of a known cell, or of a data cell whose expected value says enough.
+// A value and the variance of `y - h * x`: of a known cell, or of a data cell whose expected value says enough. An enum in place of the
+// closure's Option, as the project's scope has it: what is proved of a cell's own pilot tells a soft value from a known one.
 #[derive(Clone, Copy)]
 pub enum Found {
     Known(Complex, f32),

@@ -3,12 +3,12 @@
 
 mod found;
 mod pilot;
+mod pilots;
 mod push;
 mod rows;
-mod within;
 
 pub use found::{Found, Source, found_at};
 pub use pilot::Pilot;
+pub use pilots::Pilots;
 pub use push::{pilot_of, put, sample};
 pub use rows::load;
-pub use within::load_within;

@@ -30,7 +30,8 @@ pub fn pilot_of(c: usize, g: usize, y: Complex, x: Complex, v: f32) -> Pilot
     }
 }
 
-// Pilot i: its carrier at i, its symbol at n + i, its three numbers from 3 i on.
+// Pilot i: its carrier at i, its symbol at n + i, its three numbers from 3 i on. Two lists of numbers and no list of `Pilot`: the work area
+// that the C interface lends is one list of u32 and one of f32.
 pub fn put(p: Pilot, n: usize, i: usize, w: &mut [u32], pf: &mut [f32]) -> usize
     requires { (i < n) × (2 * n ≤ length w.old) × (3 * n ≤ length pf.old) }
     ensures { (result ≡ i + 1) × (w.new ≡ stored_w n i p w.old) × (pf.new ≡ stored_pf i p pf.old) }
@@ -59,14 +60,7 @@ pub fn push(
     ensures { Pushes n i (pushed c g y f) w.old pf.old w.new pf.new result }
 {
     match f {
-        Found::Known(x, v) => {
-            return put(pilot_of(c, g, y, x, v), n, i, w, pf);
-        }
-        Found::Soft(x, v) => {
-            return put(pilot_of(c, g, y, x, v), n, i, w, pf);
-        }
-        Found::Blank => {
-            return i;
-        }
+        Found::Known(x, v) | Found::Soft(x, v) => put(pilot_of(c, g, y, x, v), n, i, w, pf),
+        Found::Blank => i,
     }
 }

@@ -3,8 +3,9 @@ use Rattle.std.specs.Prelude.{ℕ, ◌+◌, ◌-◌, ◌*◌, ◌/◌, ◌≤◌
 use Rattle.seq.specs.Loop.{for}
 use Rattle.ieee.specs.Num.{◌⊕◌, zero64}
 use Rattle.dsp.specs.Arithmetic.{◌-ᶜ◌, norm_sqr}
-use Rattle.load.specs.Pilots.{Loaded}
+use Rattle.load.specs.Pilots.{OnGrid}
 use Rattle.load.specs.declared.pilot.Pilot.{Pilot}
+use Rattle.load.specs.declared.pilots.Pilots.{Pilots}
 use Rattle.near.specs.Search.{pilot}
 use Rattle.near.specs.declared.query.Query.{Query}
 use Rattle.near.specs.declared.query.Window.{Window}
@@ -62,13 +63,13 @@ module _ (ps : List Pilot) (start : List ℕ) where
 
 -- ---- what the code may count on
 
-pub record Windowed (w : Window) (pc pg : List ℕ) (pf : List Float) (start : List ℕ) : Type 0 where
-  pub loaded : Loaded pc pg pf start w.nc w.ng (length pc)
+pub record Windowed (w : Window) (ps : Pilots) : Type 0 where
+  pub loaded : OnGrid ps w.nc w.ng
   pub width : w.gw ≤ 12
   pub some : 1 ≤ w.k
   pub most : w.k ≤ 40
 
-pub record Fit (s : Setting) (pc pg : List ℕ) (pf : List Float) (start : List ℕ) : Type 0 where
-  pub loaded : Loaded pc pg pf start s.l.nc s.ng (length pc)
+pub record Fit (s : Setting) (ps : Pilots) : Type 0 where
+  pub loaded : OnGrid ps s.l.nc s.ng
   pub some : 1 ≤ s.k
   pub most : s.k ≤ 40

@@ -1,14 +1,16 @@
 // The best of nine models.
-ghost use Rattle.std.specs.Prelude.{◌≡◌, ◌<◌, length};
-ghost use Rattle.load.specs.Pilots.{pilots};
+ghost use Rattle.std.specs.Prelude.{◌≡◌, ◌<◌};
+ghost use Rattle.load.specs.Pilots.{listed};
 ghost use Rattle.model.specs.Values.{FitModels};
 ghost use Rattle.model.specs.Score.{Fit};
 ghost use Rattle.model.specs.Select.{scale_of, better, next, select_model};
 
 use crate::trial::{Setting, Tried, score};
 use crate::values::{fd_value, tm_value};
+use load::Pilots;
 
 // A model by its indices, 3 3 where none was borne out, and the factor on its errors.
+// Numbers, and not an Option: C is handed them, and 3 3 stands for values of its own (values.rt).
 #[derive(Clone, Copy)]
 pub struct Model {
     pub fd: u32,
@@ -24,12 +26,14 @@ pub struct Best {
 }
 
 // How much larger the errors were than the model says.
+#[tactic(auto, unfolding(crate::specs::Select::scale_of))]
 fn scale(t: Tried) -> f32
     ensures { result ≡ scale_of t }
 {
-    ieee::narrow(ieee::clamp64((t.r - t.v) / ieee::max64(t.m, 1e-30), 1.0, 10.0))
+    ieee::narrow(ieee::clamp((t.r - t.v) / ieee::max(t.m, 1e-30), 1.0, 10.0))
 }
 
+#[tactic(auto, unfolding(crate::specs::Select::better))]
 fn better(b: Best, t: Tried, i: u32, j: u32) -> Best
     ensures { result ≡ better i j t b }
 {
@@ -45,21 +49,21 @@ fn better(b: Best, t: Tried, i: u32, j: u32) -> Best
 }
 
 // Model t of the nine, fd outside and tm inside.
-fn next(pc: &[u32], pg: &[u32], pf: &[f32], start: &[u32], s: Setting, t: u32, b: Best) -> Best
-    requires { Fit s pc.now pg.now pf.now start.now × FitModels s.l × (t < 9) }
-    ensures { result ≡ next s (pilots pc.now pg.now pf.now (length pc.now)) start.now t b }
+fn next(ps: &Pilots, s: Setting, t: u32, b: Best) -> Best
+    requires { Fit s ps.now × FitModels s.l × (t < 9) }
+    ensures { result ≡ next s (listed ps.now) ps.now.start.now t b }
 {
     let i = t / 3;
     let j = t % 3;
     let fd = fd_value(s.l, s.sparse, i);
     let tm = tm_value(s.l, j);
-    better(b, score(pc, pg, pf, start, s, fd, tm), i, j)
+    better(b, score(ps, s, fd, tm), i, j)
 }
 
 // The first of the nine with the smallest residual.
-pub fn select_model(pc: &[u32], pg: &[u32], pf: &[f32], start: &[u32], s: Setting) -> Model
-    requires { Fit s pc.now pg.now pf.now start.now × FitModels s.l }
-    ensures { result ≡ select_model s (pilots pc.now pg.now pf.now (length pc.now)) start.now }
+pub fn select_model(ps: &Pilots, s: Setting) -> Model
+    requires { Fit s ps.now × FitModels s.l }
+    ensures { result ≡ select_model s (listed ps.now) ps.now.start.now }
 {
     let mut best = Best {
         r: 1.0 / 0.0,
@@ -70,7 +74,7 @@ pub fn select_model(pc: &[u32], pg: &[u32], pf: &[f32], start: &[u32], s: Settin
         },
     };
     for t in 0..9 {
-        best = next(pc, pg, pf, start, s, t, best);
+        best = next(ps, s, t, best);
     }
     best.model
 }

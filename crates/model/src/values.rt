@@ -30,6 +30,7 @@ pub fn window(l: Layout, ng: usize, k: usize) -> Window
     }
 }
 
+#[tactic(auto, unfolding(crate::specs::Values::fd_grid))]
 fn fd_grid(l: Layout, sparse: bool) -> [f64; 3]
     ensures { result ≡ fd_grid l sparse }
 {
@@ -40,6 +41,7 @@ fn fd_grid(l: Layout, sparse: bool) -> [f64; 3]
 }
 
 // Doppler of index i: of the burst's grid, and past its end the last of the robust one.
+#[tactic(auto, unfolding(crate::specs::Values::fd_value))]
 pub fn fd_value(l: Layout, sparse: bool, i: u32) -> f64
     ensures { result ≡ fd_value l sparse i }
 {
@@ -52,6 +54,7 @@ pub fn fd_value(l: Layout, sparse: bool, i: u32) -> f64
 }
 
 // Delay span of index j, and past the end the last.
+#[tactic(auto, unfolding(crate::specs::Values::tm_value))]
 pub fn tm_value(l: Layout, j: u32) -> f64
     ensures { result ≡ tm_value l j }
 {

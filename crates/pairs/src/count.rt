@@ -1,7 +1,21 @@
 // Which numbers two refinements give the same, by their bits.
-ghost use Rattle.std.specs.Prelude.{◌<◌, ◌≤◌, ◌+◌};
+ghost use Rattle.std.specs.Prelude.{◌≡◌, ◌<◌, ◌≤◌, ◌+◌, length};
 
 use crate::burst::is_own;
+
+// What a refinement writes of the burst: its likelihoods in bit order, and three channel numbers a cell.
+#[derive(Clone, Copy)]
+pub struct Numbers {
+    pub likelihoods: [f32; 48],
+    pub channel: [f32; 36],
+}
+
+impl Numbers {
+    pub const ZEROS: Numbers = Numbers {
+        likelihoods: [0.0; 48],
+        channel: [0.0; 36],
+    };
+}
 
 // What was counted so far: a cell's numbers that are equal and that differ, and the other cells' that differ.
 #[derive(Clone, Copy)]
@@ -17,12 +31,6 @@ const NONE: Count = Count {
     others: 0,
 };
 
-fn one_if(b: bool) -> u64
-    ensures { result ≤ 1 }
-{
-    if b { 1 } else { 0 }
-}
-
 fn counted(n: Count, own: bool, x: f32, y: f32) -> Count
     requires equal { n.equal < 100 }
     requires differ { n.differ < 100 }
@@ -31,43 +39,51 @@ fn counted(n: Count, own: bool, x: f32, y: f32) -> Count
     ensures differ { result.differ ≤ n.differ + 1 }
     ensures others { result.others ≤ n.others + 1 }
 {
-    let same = ieee::to_bits32(x) == ieee::to_bits32(y);
+    let same = std::num::f32_to_bits_with_nan(x) == std::num::f32_to_bits_with_nan(y);
     if own {
         return Count {
-            equal: n.equal + one_if(same),
-            differ: n.differ + one_if(!same),
+            equal: n.equal + u64::from(same),
+            differ: n.differ + u64::from(!same),
             others: n.others,
         };
     }
     Count {
         equal: n.equal,
         differ: n.differ,
-        others: n.others + one_if(!same),
+        others: n.others + u64::from(!same),
     }
 }
 
+// The numbers of a and b, place by place; `own` says which are the cell's.
+fn counts<F: Fn(usize) -> bool>(own: F, a: &[f32], b: &[f32]) -> Count
+    requires callable { F.IsAlwaysCallable own }
+    requires few { length a.now ≤ 48 }
+    requires same { length a.now ≡ length b.now }
+    ensures equal { result.equal ≤ length a.now }
+    ensures differ { result.differ ≤ length a.now }
+    ensures others { result.others ≤ length a.now }
+{
+    let mut n = NONE;
+    for (i, x) in a.iter().enumerate() {
+        n = counted(n, own(i), *x, b[i]);
+    }
+    n
+}
+
 // The channel lists: three numbers a cell.
-pub fn channels(j: usize, a: &[f32; 36], b: &[f32; 36]) -> Count
+pub fn channels(j: usize, a: &Numbers, b: &Numbers) -> Count
     ensures equal { result.equal ≤ 36 }
     ensures differ { result.differ ≤ 36 }
     ensures others { result.others ≤ 36 }
 {
-    let mut n = NONE;
-    for i in 0..36usize {
-        n = counted(n, i / 3 == j, a[i], b[i]);
-    }
-    n
+    counts(|i| i / 3 == j, &a.channel, &b.channel)
 }
 
 // The likelihoods, in bit order.
-pub fn likelihoods(j: usize, a: &[f32; 48], b: &[f32; 48]) -> Count
+pub fn likelihoods(j: usize, a: &Numbers, b: &Numbers) -> Count
     ensures equal { result.equal ≤ 48 }
     ensures differ { result.differ ≤ 48 }
     ensures others { result.others ≤ 48 }
 {
-    let mut n = NONE;
-    for i in 0..48usize {
-        n = counted(n, is_own(i, j), a[i], b[i]);
-    }
-    n
+    counts(|i| i < 48 && is_own(i, j), &a.likelihoods, &b.likelihoods)
 }

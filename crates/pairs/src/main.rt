@@ -8,36 +8,30 @@ mod count;
 
 ghost use Rattle.std.specs.Prelude.{◌<◌};
 
-use phy::Refinement;
+use crate::count::Numbers;
+use cause::Cause;
 use refine::Refined;
 use std::io;
 
 fn print_refined(rt: &impl Print, r: Refined) -> io::Result<()> {
     let fd = r.fd;
     let tm = r.tm;
-    let scale = ieee::to_bits32(r.scale);
+    let scale = std::num::f32_to_bits_with_nan(r.scale);
     let spoilt = r.spoilt;
     println!(rt; "'s priors negated: model {fd} {tm}, scale {scale:08x}, spoilt {spoilt}")
 }
 
-fn print_refinement(rt: &impl Print, r: Refinement) -> io::Result<()> {
+fn print_refinement(rt: &impl Print, r: Result<Refined, Cause>) -> io::Result<()> {
     match r {
-        Refinement::Accepted(refined) => print_refined(rt, refined),
-        Refinement::Refused(_) => println!(rt; ": refused"),
+        Ok(refined) => print_refined(rt, refined),
+        Err(_) => println!(rt; ": refused"),
     }
 }
 
 // The cell whose own priors were negated, and the others.
-fn print_own(
-    rt: &impl Print,
-    j: usize,
-    a: &[f32; 48],
-    c: &[f32; 36],
-    b: &[f32; 48],
-    d: &[f32; 36],
-) -> io::Result<()> {
+fn print_own(rt: &impl Print, j: usize, a: &Numbers, b: &Numbers) -> io::Result<()> {
     let l = count::likelihoods(j, a, b);
-    let h = count::channels(j, c, d);
+    let h = count::channels(j, a, b);
     let own = h.equal + l.equal;
     let numbers = h.others;
     let others = l.others;
@@ -47,48 +41,39 @@ fn print_own(
 }
 
 // Cell j, another cell's priors negated.
-fn print_neighbour(
-    rt: &impl Print,
-    j: usize,
-    a: &[f32; 48],
-    c: &[f32; 36],
-    b: &[f32; 48],
-    d: &[f32; 36],
-) -> io::Result<()> {
+fn print_neighbour(rt: &impl Print, j: usize, a: &Numbers, b: &Numbers) -> io::Result<()> {
     let l = count::likelihoods(j, a, b);
-    let h = count::channels(j, c, d);
+    let h = count::channels(j, a, b);
     let numbers = h.differ;
     let differ = l.differ;
     println!(rt; "  of cell {j} differ: {numbers} of 3 channel numbers, {differ} of 4 likelihoods")
 }
 
-// The refinement with cell j's own priors negated, against likelihoods a and channel list c.
-fn print_pair(rt: &impl Print, j: usize, a: &[f32; 48], c: &[f32; 36]) -> io::Result<()>
+// The refinement with cell j's own priors negated, against what the one with none negated gave.
+fn print_pair(rt: &impl Print, j: usize, a: &Numbers) -> io::Result<()>
     requires { j < 12 }
 {
     let p = burst::priors(j);
-    let mut b = [0.0f32; 48];
-    let mut d = [0.0f32; 36];
-    let r = burst::refined(&p, &mut b, &mut d);
+    let mut b = Numbers::ZEROS;
+    let r = burst::refined(&p, &mut b.likelihoods, &mut b.channel);
     print!(rt; "cell {j}")?;
     print_refinement(rt, r)?;
-    print_own(rt, j, a, c, &b, &d)?;
-    print_neighbour(rt, j ^ 1, a, c, &b, &d)
+    print_own(rt, j, a, &b)?;
+    print_neighbour(rt, j ^ 1, a, &b)
 }
 
-fn print_pairs(rt: &impl Print, a: &[f32; 48], c: &[f32; 36]) -> io::Result<()> {
+fn print_pairs(rt: &impl Print, a: &Numbers) -> io::Result<()> {
     for j in 0..12usize {
-        print_pair(rt, j, a, c)?;
+        print_pair(rt, j, a)?;
     }
     Ok(())
 }
 
 fn main(rt: HostRuntime) -> io::Result<()> {
     let p = burst::priors(12);
-    let mut a = [0.0f32; 48];
-    let mut c = [0.0f32; 36];
-    let r = burst::refined(&p, &mut a, &mut c);
+    let mut a = Numbers::ZEROS;
+    let r = burst::refined(&p, &mut a.likelihoods, &mut a.channel);
     print!(rt; "no cell")?;
     print_refinement(&rt, r)?;
-    print_pairs(&rt, &a, &c)
+    print_pairs(&rt, &a)
 }

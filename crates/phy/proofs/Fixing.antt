@@ -6,32 +6,36 @@ use mathlib.Core.List.{[], ◌∷◌}
 use lib.ListN.{get_or}
 use lib.Dec.{eqb}
 use borrow.Author.Tests.{eqb-true, eqb-false}
-use Rattle.table.specs.declared.causes.Cause.{Cause}
-use Rattle.table.specs.declared.causes.Cause.TheVariants.{Layout, Codes, Symbols, Grid, Variances, Room, Numbers}
-use Rattle.phy.specs.declared.refinement.Refinement.{Refinement}
-use Rattle.phy.specs.declared.refinement.Refinement.TheVariants.{Accepted, Refused}
-use Rattle.table.specs.Causes.{cause_number}
-use Rattle.phy.specs.Entry.{number_of, Fixed}
+use Rattle.std.specs.Prelude.{Result, Ok, Err}
+use Rattle.cause.specs.declared.Cause.{Cause}
+use Rattle.cause.specs.declared.Cause.TheVariants.{Layout, Codes, Symbols, Grid, Lengths, Room, Numbers, Check, NoSymbols, Fields, Place, Record}
+use Rattle.cause.specs.Causes.{cause_number, number_of}
+use Rattle.phy.specs.Entry.{Fixed}
 use Rattle.table.specs.Refusals.{refusal_in}
 
 -- the cause of a number; 0 is none
 abbrev named : ℕ → Cause
-named n = get_or (Layout ∷ Layout ∷ Codes ∷ Symbols ∷ Grid ∷ Variances ∷ Room ∷ Numbers ∷ []) n Layout
+named n = get_or (Layout ∷ Layout ∷ Codes ∷ Symbols ∷ Grid ∷ Lengths ∷ Room ∷ Numbers ∷ Check ∷ NoSymbols ∷ Fields ∷ Place ∷ Record ∷ []) n Layout
 
 named_number : (cause : Cause) → named (cause_number cause) ≡ cause
 named_number Layout = refl
 named_number Codes = refl
 named_number Symbols = refl
 named_number Grid = refl
-named_number Variances = refl
+named_number Lengths = refl
 named_number Room = refl
 named_number Numbers = refl
+named_number Check = refl
+named_number NoSymbols = refl
+named_number Fields = refl
+named_number Place = refl
+named_number Record = refl
 
 -- a refusal is known by its number
-by_number : (r r' : Refinement) → (number_of r ≡ 0 → ⊥) → number_of r ≡ number_of r' → r ≡ r'
-by_number (Accepted x) r' n e = absurd (n refl)
-by_number (Refused cause) (Accepted x) n e = absurd (n e)
-by_number (Refused cause) (Refused cause') n e = ap Refused (sym (named_number cause) ∙ ap named e ∙ named_number cause')
+by_number : {A : Type 0} → (r r' : Result A Cause) → (number_of r ≡ 0 → ⊥) → number_of r ≡ number_of r' → r ≡ r'
+by_number (Ok x) r' n e = absurd (n refl)
+by_number (Err cause) (Ok x) n e = absurd (n e)
+by_number (Err cause) (Err cause') n e = ap Err (sym (named_number cause) ∙ ap named e ∙ named_number cause')
 
 zero_or_not : {X : Type 0} (q : ℕ) → (q ≡ 0 → X) → ((q ≡ 0 → ⊥) → X) → X
 zero_or_not {X} q zero other = go (eqb q 0) refl

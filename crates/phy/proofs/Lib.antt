@@ -1,6 +1,5 @@
 -- Laws of the definitions, for the proofs here and in the crates above.
-pub mod Answers
 pub mod Fixing
 pub mod OwnPriors
 pub mod WorkOnly
-pub mod Measured
+pub mod Places

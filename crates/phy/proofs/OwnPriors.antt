@@ -9,7 +9,6 @@ use Rattle.refine.specs.Refine as core
 use Rattle.refine.specs.Refine.{Burst, burst, nsym, refined_of}
 use Rattle.refine.specs.Independence as core-independence
 use Rattle.refine.proofs.Independence.{independence}
-use Rattle.phy.specs.declared.refinement.Refinement.TheVariants.{Accepted}
 use Rattle.phy.specs.Independence.{Shared, Accepts, Independence}
 use Rattle.table.proofs.Passing.{accepted_fits}
 
@@ -19,14 +18,11 @@ same_burst b b' s = parts s.settings s.grid s.sigma s.cells
     parts : {s s' : Settings} {g g' m m' c c' : List Float} → s ≡ s' → g ≡ g' → m ≡ m' → c ≡ c' → burst s g m c ≡ burst s' g' m' c'
     parts es eg em ec = cc
 
-reported : (r x : Refined) → Accepted r ≡ Accepted x → r ≡ x
-reported r x e = cc
-
 module _ {b : Burst} {p : List Float} {r : Refined} {answer channel : List Float} (a : Accepts b p r answer channel) where
   promised : core.Refines b p r a.answer₀ answer a.channel₀ channel
   promised =
       let c = a.call.accepted (sym a.call.number) in
-      record { result = reported r (refined_of b p) c.result; answer = c.answer; channel = c.channel }
+      record { result = (cc); answer = c.answer; channel = c.channel }
 
   few : nsym b ≤ 1023
   few = (accepted_fits b p a.answer₀ a.channel₀ a.wf₀ a.wu₀ (sym a.call.number)).most

@@ -1,9 +1,8 @@
 -- Demand 3, of two calls of `refine` that are accepted. Proved in proofs/OwnPriors.antt.
-use Rattle.std.specs.Prelude.{ℕ, ◌<◌, ◌≡◌, false, List, Float}
+use Rattle.std.specs.Prelude.{ℕ, ◌<◌, ◌≡◌, Ok, false, List, Float}
 use Rattle.refine.specs.declared.whole.Refined.{Refined}
 use Rattle.refine.specs.Refine.{Burst, ncell}
 use Rattle.refine.specs.Independence.{SameBut, SameReport, SameCell}
-use Rattle.phy.specs.declared.refinement.Refinement.TheVariants.{Accepted}
 use Rattle.phy.specs.Entry.{Refining}
 
 -- two calls on one burst that share settings, grid and variances
@@ -21,7 +20,7 @@ pub record Accepts (b : Burst) (prior : List Float) (r : Refined) (answer channe
   pub wf₁ : List Float
   pub wu₀ : List ℕ
   pub wu₁ : List ℕ
-  pub call : Refining b prior (Accepted r) answer₀ answer channel₀ channel wf₀ wf₁ wu₀ wu₁
+  pub call : Refining b prior (Ok r) answer₀ answer channel₀ channel wf₀ wf₁ wu₀ wu₁
 
 -- Where the burst is unspread, the priors are the same but for those of data cell j, and model and scale are reported the same, cell j has one estimate, one error and
 -- one set of likelihoods.

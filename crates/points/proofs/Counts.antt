@@ -1,19 +1,11 @@
 -- How many points there are, which labels they have, and which counts a float holds. Assumes nothing.
 use Prim.Native.Nat.{ℕ, zero, suc, ◌+◌, ◌-◌, ◌*◌, ◌/◌, ◌%◌, ◌^◌, ◌≤◌, ◌<◌}
-use mathlib.Core.Path.{◌≡◌, refl, ◌∙◌}
-use mathlib.Core.Bool.{Bool}
-use native.Mathlib.Nat.{one-mul, lt_of_lt_of_le, mul-le-mul}
+use mathlib.Core.Path.{◌≡◌, refl}
+use native.Mathlib.Nat.{lt_of_lt_of_le}
 use native.Mathlib.Omega.{arith}
 use lib.Bits.{xor_lt, or_lt}
-use lib.Dec.{ltb, ltb→lt}
-use lib.ListN.{get_or}
 use lib.Pow.{pow_mono, shl_exact, shl_lt}
-use Rattle.points.specs.Constellation.{labels, gray_of, label_of}
-use Rattle.points.proofs.Below.{all_at}
-
--- 1 << b
-pub one_shifted : (b : ℕ) → b ≤ 6 → 1 * 2 ^ b % 18446744073709551616 ≡ 2 ^ b
-one_shifted b h = shl_exact 1 b 64 (omega arith) (omega arith) ∙ one-mul (2 ^ b)
+use Rattle.points.specs.Constellation.{gray_of, label_of}
 
 pub at_most_64 : (b : ℕ) → b ≤ 6 → 2 ^ b ≤ 64
 at_most_64 b h = pow_mono {j = 6} h
@@ -34,16 +26,6 @@ label_below b i q h k l =
     lt_of_lt_of_le
     (or_lt (b + b) (gray_of i * 2 ^ b) (gray_of q) (shl_lt b b (gray_below b i k)) (lt_of_lt_of_le (gray_below b q l) (pow_mono {j = b + b} (omega arith))))
     (pow_mono {j = 6} (omega arith))
-
-below64 : ℕ → Bool
-below64 m = ltb (get_or labels m 0) 64
-
-pub label8_below : (m : ℕ) → m < 8 → get_or labels m 0 < 64
-unfolding below64
-label8_below m h = ltb→lt (get_or labels m 0) 64 (all_at 8 below64 tt m h)
-
-pub square : (m : ℕ) → 0 < m → m ≤ 8 → (1 ≤ m * m) × (m * m ≤ 64)
-square m h k = (mul-le-mul h h, mul-le-mul k k)
 
 -- a code that is none of the first three
 pub from_three : (code : ℕ) → (code ≡ 0 → ⊥) → (code ≡ 1 → ⊥) → (code ≡ 2 → ⊥) → code ≡ suc (suc (suc (code - 3)))

@@ -48,9 +48,9 @@ qam64_sound : T (sound (run 8 (λ i. run 8 (qam_turn 3 i)) blank))
 unfolding sound finites is_finite blank qam_turn label_of gray_of level qam_scale rooted sub mul div of_bits of_int
 qam64_sound = tt
 
-qam_runs : (b : ℕ) → (qam_of b).pts ≡ run (2 ^ b) (λ i. run (2 ^ b) (qam_turn b i)) blank
+qam_runs : (b : ℕ) (h : b ≤ 3) → (qam_of b h).pts ≡ run (2 ^ b) (λ i. run (2 ^ b) (qam_turn b i)) blank
 unfolding qam_of qam_row
-qam_runs b =
+qam_runs b h =
     for_run (qam_row b) (2 ^ b) blank
     ∙ run_same (qam_row b) (λ i. run (2 ^ b) (qam_turn b i)) (λ i s. for_run (qam_turn b i) (2 ^ b) s) (2 ^ b) blank
 
@@ -71,6 +71,6 @@ pub points_laws : (code : ℕ) → PointsLaws code
 unfolding points_of qpsk_of psk8_of qam_of
 points_laws zero = of 0 (run 4 qpsk_turn blank) (for_run qpsk_turn 4 blank) qpsk_sound refl (lit≤ tt) (lit≤ tt)
 points_laws (suc zero) = of 1 (run 8 psk8_turn blank) (for_run psk8_turn 8 blank) psk8_sound refl (lit≤ tt) (lit≤ tt)
-points_laws (suc (suc zero)) = of 2 (run 4 (λ i. run 4 (qam_turn 2 i)) blank) (qam_runs 2) qam16_sound refl (lit≤ tt) (lit≤ tt)
+points_laws (suc (suc zero)) = of 2 (run 4 (λ i. run 4 (qam_turn 2 i)) blank) (qam_runs 2 (lit≤ tt)) qam16_sound refl (lit≤ tt) (lit≤ tt)
 points_laws (suc (suc (suc code))) =
-    of (suc (suc (suc code))) (run 8 (λ i. run 8 (qam_turn 3 i)) blank) (qam_runs 3) qam64_sound refl (lit≤ tt) (lit≤ tt)
+    of (suc (suc (suc code))) (run 8 (λ i. run 8 (qam_turn 3 i)) blank) (qam_runs 3 (lit≤ tt)) qam64_sound refl (lit≤ tt) (lit≤ tt)

@@ -1,16 +1,20 @@
 -- A table scaled in place, point by point, has each of its points scaled once. Assumes nothing.
 use Prim.Native.Nat.{ℕ, zero, suc, ◌+◌, ◌*◌, ◌≤◌, ◌<◌}
-use mathlib.Core.Path.{◌≡◌, sym, ap, ap₂, ◌∙◌}
-use mathlib.Core.List.{List}
+use mathlib.Core.Path.{◌≡◌, refl, sym, ap, ap₂, ◌∙◌}
+use mathlib.Core.List.{List, ◌++◌}
 use mathlib.Core.Logic.{⊎_elim}
 use native.Mathlib.Nat.{eq-or-lt_of_le, le_of_suc-le-suc}
 use native.Mathlib.Numerals.{add-one}
 use native.Mathlib.Omega.{arith}
-use lib.ListN.{length, set, length-set}
-use lib.Seq.{get_or-set_same, get_or-set_other}
+use lib.ListN.{length, set, get_or, drop, length-set}
+use lib.Seq.{get_or_at, get_or-set_same, get_or-set_other}
+use Rattle.std.proofs.Common.{drop-cons}
 use lib.Ieee.{Float, nan}
 use Rattle.seq.specs.Loop.{for}
 use Rattle.seq.specs.Loop.Laws.{for_none, for_next}
+use Rattle.seq.specs.Tab.{tab}
+use Rattle.seq.specs.Tab.Laws.{length_tab, tab_none, tab_step, tab_end}
+use Rattle.ieee.specs.Num.{◌⊠◌}
 use Rattle.dsp.specs.declared.Complex.{Complex}
 use Rattle.dsp.specs.Arithmetic.{complex, scaleᶜ}
 use Rattle.points.specs.Table.{point_at, put_at}
@@ -55,6 +59,33 @@ module _ (pts : List Float) (gain : Float) where
       ap (λ (l : List Float). point_at l k) (turned n)
       ∙ put_other (after n) n k (scaleᶜ (point_at (after n) n) gain) (λ q. omega arith)
       ∙ ahead n k (omega arith)
+
+  -- the table's number i, scaled
+  abbrev pub scaled_at : ℕ → Float
+  scaled_at i = get_or pts i nan ⊠ gain
+
+  -- what is still to be written is the table's
+  pub unread : (k : ℕ) (l : List Float) → k < length pts → l ≡ tab k scaled_at ++ drop k pts → get_or l k nan ⊠ gain ≡ scaled_at k
+  unread k l h e =
+      rw e
+      (ap (λ (t : List Float). get_or (tab k scaled_at ++ t) k nan ⊠ gain) (drop-cons pts k nan h)
+      ∙ ap (λ (x : Float). x ⊠ gain) (get_or_at (tab k scaled_at) (get_or pts k nan) (drop (suc k) pts) nan k (length_tab scaled_at k)))
+
+  written : (n : ℕ) → 2 * n ≤ length pts → after n ≡ tab (2 * n) scaled_at ++ drop (2 * n) pts
+  unfolding after scaleᶜ
+  written zero h = sym (for_none (scale_turn gain) 0 pts) ∙ tab_none scaled_at pts
+  written (suc n) h =
+      let two : 2 * suc n ≡ 2 * n + 1 + 1 = omega arith in
+      turned n
+      ∙ ap (λ (x : Complex). put_at (after n) n (scaleᶜ x gain)) (ahead n n (omega arith))
+      ∙ rw two
+      (tab_step scaled_at (2 * n + 1) pts (set (after n) (2 * n) (scaled_at (2 * n))) (scaled_at (2 * n + 1)) (omega arith)
+      (tab_step scaled_at (2 * n) pts (after n) (scaled_at (2 * n)) (omega arith) (written n (omega arith)) refl) refl)
+
+  -- a table each of whose numbers is scaled is the table scaled point by point
+  pub scaled_whole : (k : ℕ) (l : List Float) → length pts ≡ 128 → k ≤ 128 → 128 ≤ k → l ≡ tab k scaled_at ++ drop k pts → l ≡ scaled_of pts gain
+  unfolding scaled_of after
+  scaled_whole k l w h h' e = tab_end scaled_at k 128 pts l h h' e ∙ sym (written 64 (omega arith))
 
   behind : (n k : ℕ) → length pts ≡ 128 → n ≤ 64 → k < n → point_at (after n) k ≡ scaleᶜ (point_at pts k) gain
   behind zero k w h l = absurd (omega arith)

@@ -1,5 +1,7 @@
 -- frame.rs, `qpsk`, `psk8`, `qam`, and phy.rs, `Constellation`, line by line.
-use Rattle.std.specs.Prelude.{ℕ, zero, suc, ◌-◌, ◌*◌, ◌/◌, ◌%◌, ◌^◌, List, [], ◌∷◌, get_or, Float}
+use Rattle.std.specs.Prelude.{ℕ, zero, suc, ◌-◌, ◌*◌, ◌/◌, ◌%◌, ◌^◌, ◌≤◌, List, [], ◌∷◌, get_or, Float}
+use Rattle.std.proofs.Common.{lit≤}
+use Rattle.std.proofs.Math.Nat.{mul-le-mul_left}
 use Rattle.std.specs.Int.Bits.{bit_xor, bit_or}
 use Rattle.std.specs.Float.{binary32, binary64}
 use Rattle.std.specs.Float.Ieee.{of_bits}
@@ -46,7 +48,7 @@ qpsk_turn label pts = put_at pts label (corner_of label)
 
 -- for (label, p) in pts.iter_mut().enumerate().take(4)
 unfoldable pub qpsk_of : Points
-qpsk_of = record { bps = 2; pts = for 0 4 qpsk_turn blank }
+qpsk_of = record { bps = 2; pts = for 0 4 qpsk_turn blank; few = lit≤ tt }
 
 -- ---- psk8
 
@@ -68,7 +70,7 @@ psk8_turn m pts = put_at pts (get_or labels m 0) (circle_point m)
 
 -- for (m, &label) in GRAY.iter().enumerate()
 unfoldable pub psk8_of : Points
-psk8_of = record { bps = 3; pts = for 0 8 psk8_turn blank }
+psk8_of = record { bps = 3; pts = for 0 8 psk8_turn blank; few = lit≤ tt }
 
 -- ---- qam
 
@@ -100,8 +102,8 @@ unfoldable pub qam_row : ℕ → ℕ → List Float → List Float
 qam_row b i pts = for 0 (2 ^ b) (qam_turn b i) pts
 
 -- for i in 0..m
-unfoldable pub qam_of : ℕ → Points
-qam_of b = record { bps = 2 * b; pts = for 0 (2 ^ b) (qam_row b) blank }
+unfoldable pub qam_of : (b : ℕ) → b ≤ 3 → Points
+qam_of b h = record { bps = 2 * b; pts = for 0 (2 ^ b) (qam_row b) blank; few = mul-le-mul_left 2 h }
 
 -- ---- Constellation
 
@@ -116,5 +118,5 @@ bps_of (suc (suc (suc code))) = 6
 unfoldable pub points_of : ℕ → Points
 points_of zero = qpsk_of
 points_of (suc zero) = psk8_of
-points_of (suc (suc zero)) = qam_of 2
-points_of (suc (suc (suc code))) = qam_of 3
+points_of (suc (suc zero)) = qam_of 2 (lit≤ tt)
+points_of (suc (suc (suc code))) = qam_of 3 (lit≤ tt)

@@ -25,13 +25,6 @@ fn qpsk() -> Points
 
 const GRAY: [usize; 8] = [0, 1, 3, 2, 6, 7, 5, 4];
 
-fn gray8(m: usize) -> usize
-    requires { m < 8 }
-    ensures { (result ≡ get_or labels m 0) × (result < 64) }
-{
-    GRAY[m]
-}
-
 // The point m eighths of a turn past the first.
 fn on_circle(m: usize) -> Complex
     requires { m < 8 }
@@ -49,8 +42,8 @@ fn psk8() -> Points
     ensures { result ≡ psk8_of }
 {
     let mut pts = blank();
-    for m in 0..8 {
-        put(&mut pts, gray8(m), on_circle(m));
+    for (m, &label) in GRAY.iter().enumerate() {
+        put(&mut pts, label, on_circle(m));
     }
     Points { bps: 3, pts }
 }
@@ -74,7 +67,7 @@ fn scale(m: usize) -> f32
     requires { (0 < m) × (m ≤ 8) }
     ensures { result ≡ qam_scale m }
 {
-    1.0 / ieee::sqrt32((2.0 * (m * m - 1) as f32) / 3.0)
+    1.0 / ieee::sqrt((2.0 * (m * m - 1) as f32) / 3.0)
 }
 
 fn level(k: f32, m: usize, i: usize) -> f32
@@ -99,7 +92,7 @@ fn qam_row(pts: &mut [f32; 128], b: usize, i: usize)
 // Square QAM with b Gray-coded bits an axis.
 fn qam(b: usize) -> Points
     requires { b ≤ 3 }
-    ensures { result ≡ qam_of b }
+    ensures { (few : b ≤ 3) → result ≡ qam_of b few }
 {
     let mut pts = blank();
     let m = count(b);
@@ -109,6 +102,8 @@ fn qam(b: usize) -> Points
     Points { bps: 2 * b, pts }
 }
 
+// By the code of a burst's header, as a number: a rule of the project has a match on the code choose among the four.
+// Codes above 3 name the last.
 pub fn points(code: u32) -> Points
     ensures { result ≡ points_of code }
 {
@@ -120,6 +115,7 @@ pub fn points(code: u32) -> Points
     }
 }
 
+// By the code too: sizes are asked for where no table is wanted.
 pub fn bits_a_point(code: u32) -> usize
     ensures { result ≡ bps_of code }
 {

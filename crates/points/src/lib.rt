@@ -6,5 +6,4 @@ mod power;
 mod table;
 
 pub use constellation::{bits_a_point, points};
-pub use power::{energy, mean_energy, scaled};
-pub use table::{Points, count, point};
+pub use table::{Points, count};

@@ -1,38 +1,38 @@
-ghost use Rattle.std.specs.Prelude.{◌≡◌, ◌≤◌};
+// The scaled points and their mean energy, after refine.rs, `refine`.
+ghost use Rattle.std.specs.Prelude.{◌≡◌};
 ghost use Rattle.points.specs.Power.{scaled_of, energy_of, mean_energy_of};
 
-use crate::table::{count, point, put};
+use crate::table::Points;
 
-// Each of the 64 points times the gain.
-pub fn scaled(pts: &[f32; 128], gain: f32) -> [f32; 128]
-    ensures { result ≡ scaled_of pts.now gain }
-{
-    let mut out = *pts;
-    for k in 0..64 {
-        let x = point(&out, k);
-        put(&mut out, k, x.scale(gain));
+impl Points {
+    // Each of the 64 points times the gain: both of a point's numbers, so every number of the table.
+    pub fn scaled(&self, gain: f32) -> Points
+        ensures bits { result.bps ≡ self.now.bps }
+        ensures table { result.pts ≡ scaled_of self.now.pts gain }
+    {
+        let mut pts = self.pts;
+        for v in pts.iter_mut() {
+            *v *= gain;
+        }
+        Points { bps: self.bps, pts }
     }
-    out
-}
 
-// The sum of the points' powers.
-pub fn energy(pts: &[f32; 128], bps: usize) -> f32
-    requires { bps ≤ 6 }
-    ensures { result ≡ energy_of pts.now bps }
-{
-    let n = count(bps);
-    let mut sum = -0.0f32;
-    for k in 0..n {
-        sum += point(pts, k).norm_sqr();
+    // The sum of the points' powers. By the index, since a point is two numbers of the flat table.
+    pub fn energy(&self) -> f32
+        ensures { result ≡ energy_of self.now.pts self.now.bps }
+    {
+        let mut sum = -0.0f32;
+        for k in 0..self.count() {
+            sum += self.point(k).norm_sqr();
+        }
+        sum
     }
-    sum
-}
 
-// The mean power of a point at the gain.
-pub fn mean_energy(pts: &[f32; 128], bps: usize, gain: f32) -> f32
-    requires { bps ≤ 6 }
-    ensures { result ≡ mean_energy_of pts.now bps gain }
-{
-    let g2 = gain * gain;
-    g2 * energy(pts, bps) / count(bps) as f32
+    // The mean power of a point at the gain.
+    pub fn mean_energy(&self, gain: f32) -> f32
+        ensures { result ≡ mean_energy_of self.now.pts self.now.bps gain }
+    {
+        let g2 = gain * gain;
+        g2 * self.energy() / self.count() as f32
+    }
 }

@@ -3,16 +3,37 @@ ghost use Rattle.points.specs.Table.{blank, point_at, put_at};
 
 use dsp::Complex;
 
-// 64 points as re, im, re, im, .., of which the first 2^bps are the constellation's and the rest are zero.
+// 64 points as re, im, re, im, .., of which the first 2^bps are the constellation's and the rest are zero. The numbers
+// lie flat, since the C interface lends and takes such a table: so a point is read and written by its index.
 #[derive(Clone, Copy)]
 pub struct Points {
     pub bps: usize,
     pub pts: [f32; 128],
+    pub ghost few: { bps ≤ 6 },
 }
 
+impl Points {
+    // frame.rs, `Points::count`.
+    pub fn count(&self) -> usize
+        ensures exact { result ≡ 2 ^ self.now.bps }
+        ensures few { result ≤ 64 }
+    {
+        count(self.bps)
+    }
+
+    pub fn point(&self, k: usize) -> Complex
+        requires { k < 64 }
+        ensures { result ≡ point_at self.now.pts k }
+    {
+        Complex::new(self.pts[2 * k], self.pts[2 * k + 1])
+    }
+}
+
+// How many labels of so many bits there are.
 pub fn count(bps: usize) -> usize
     requires { bps ≤ 6 }
-    ensures { result ≡ 2 ^ bps }
+    ensures exact { result ≡ 2 ^ bps }
+    ensures few { result ≤ 64 }
 {
     1 << bps
 }
@@ -21,13 +42,6 @@ pub fn blank() -> [f32; 128]
     ensures { result ≡ blank }
 {
     [0f32; 128]
-}
-
-pub fn point(pts: &[f32; 128], k: usize) -> Complex
-    requires { k < 64 }
-    ensures { result ≡ point_at pts.now k }
-{
-    Complex::new(pts[2 * k], pts[2 * k + 1])
 }
 
 pub fn put(pts: &mut [f32; 128], k: usize, x: Complex)

@@ -1,4 +1,4 @@
-// layout: what has no answer gives 0xFFFF or 0. Numbers past 8 name the last layout.
+// layout: what has no answer gives 0xFFFF or 0, and a layout is a number, as C asks. Numbers past 8 name the last.
 ghost use Rattle.std.specs.Prelude.{◌≡◌, cond, not, ◌&&◌, leb, ltb, length};
 ghost use Rattle.ieee.specs.Num.{one32};
 ghost use Rattle.layout.specs.Layouts.{layout_of};
@@ -9,7 +9,6 @@ ghost use Rattle.layout.specs.Known.{known_value};
 ghost use Rattle.spread.specs.Flat.{flat};
 ghost use Rattle.probes.specs.Within.{Put};
 
-use crate::lists::put2;
 use layout::Map;
 
 fn map_of(number: u32, sparse: bool, gain: f32) -> Map
@@ -35,10 +34,7 @@ pub fn probe_data_carrier(number: u32, sparse: bool, g: usize, j: usize) -> usiz
     ensures { result ≡ cond (leb 1 g && ltb j (carriers_at (map_of (layout_of number) sparse one32) g)) (data_carrier (map_of (layout_of number) sparse one32) g j) 0xFFFF }
 {
     let m = map_of(number, sparse, 1.0);
-    if g == 0 {
-        return 0xFFFF;
-    }
-    if j >= carriers_at(m, g) {
+    if g == 0 || j >= carriers_at(m, g) {
         return 0xFFFF;
     }
     m.data_carrier(g, j)
@@ -48,10 +44,7 @@ pub fn probe_cell_index(number: u32, sparse: bool, g: usize, c: usize) -> usize
     ensures { result ≡ cond (ltb c (map_of (layout_of number) sparse one32).nc && not (is_pilot (map_of (layout_of number) sparse one32) c g)) (cell_index (map_of (layout_of number) sparse one32) g c) 0xFFFF }
 {
     let m = map_of(number, sparse, 1.0);
-    if c >= m.nc {
-        return 0xFFFF;
-    }
-    if m.is_pilot(c, g) {
+    if c >= m.nc || m.is_pilot(c, g) {
         return 0xFFFF;
     }
     m.cell_index(g, c)
@@ -69,15 +62,9 @@ pub fn probe_known(
     ensures { Put (ltb c (map_of (layout_of number) sparse gain).nc && leb g 65535 && leb 2 (length out.old)) 2 (flat (known_value (map_of (layout_of number) sparse gain) boost c g)) out.old result out.new }
 {
     let m = map_of(number, sparse, gain);
-    if c >= m.nc {
+    if c >= m.nc || g > 65535 || out.len() < 2 {
         return 0;
     }
-    if g > 65535 {
-        return 0;
-    }
-    if out.len() < 2 {
-        return 0;
-    }
-    put2(out, m.known(c, g, boost));
+    m.known(c, g, boost).put(out, 0);
     1
 }

@@ -1,4 +1,5 @@
-// points and soft: a list that does not fit is left as it was. Codes past 3 name the last constellation.
+// points and soft: a list that does not fit is left as it was, and 0 is answered. Codes past 3 name the last
+// constellation. Numbers answer and name here, since C has no Option and no enum with values.
 ghost use Rattle.std.specs.Prelude.{◌≡◌, cond, ◌&&◌, ◌++◌, leb, length, drop};
 ghost use Rattle.dsp.specs.Arithmetic.{complex};
 ghost use Rattle.points.specs.Constellation.{points_of};
@@ -8,6 +9,7 @@ ghost use Rattle.probes.specs.Within.{Put, flat_soft};
 
 use crate::lists::{put3, put128};
 use dsp::Complex;
+use points::Points;
 
 // Answers the bits of a point.
 pub fn probe_points(code: u32, out: &mut [f32]) -> usize
@@ -17,8 +19,7 @@ pub fn probe_points(code: u32, out: &mut [f32]) -> usize
         return 0;
     }
     let t = points::points(code);
-    let pts = t.pts;
-    put128(out, &pts);
+    put128(out, &t.pts);
     t.bps
 }
 
@@ -29,18 +30,15 @@ pub fn probe_scaled(code: u32, gain: f32, out: &mut [f32]) -> u32
         return 0;
     }
     let t = points::points(code);
-    let pts = t.pts;
-    let scaled = points::scaled(&pts, gain);
-    put128(out, &scaled);
+    let scaled = t.scaled(gain);
+    put128(out, &scaled.pts);
     1
 }
 
 pub fn probe_mean_energy(code: u32, gain: f32) -> f32
     ensures { result ≡ mean_energy_of (points_of code).pts (points_of code).bps gain }
 {
-    let t = points::points(code);
-    let pts = t.pts;
-    points::mean_energy(&pts, t.bps, gain)
+    points::points(code).mean_energy(gain)
 }
 
 // The points scaled by the gain; mean and variance go to out.
@@ -48,15 +46,10 @@ pub fn probe_soft_point(code: u32, gain: f32, llr: &[f32], out: &mut [f32]) -> u
     ensures { Put (leb (points_of code).bps (length llr.now) && leb 3 (length out.old)) 3 (flat_soft (soft_point llr.now (scaled_of (points_of code).pts gain) (points_of code).bps)) out.old result out.new }
 {
     let t = points::points(code);
-    if llr.len() < t.bps {
+    if llr.len() < t.bps || out.len() < 3 {
         return 0;
     }
-    if out.len() < 3 {
-        return 0;
-    }
-    let pts = t.pts;
-    let scaled = points::scaled(&pts, gain);
-    let s = soft::soft_point(llr, &scaled, t.bps);
+    let s = soft::soft_point(llr, &t.scaled(gain));
     put3(out, s.mean, s.var);
     1
 }
@@ -65,16 +58,10 @@ pub fn probe_soft_point(code: u32, gain: f32, llr: &[f32], out: &mut [f32]) -> u
 pub fn probe_soft_point_of(pts: &[f32; 128], bps: usize, llr: &[f32], out: &mut [f32]) -> u32
     ensures { Put (leb bps 6 && leb bps (length llr.now) && leb 3 (length out.old)) 3 (flat_soft (soft_point llr.now pts.now bps)) out.old result out.new }
 {
-    if bps > 6 {
+    if bps > 6 || llr.len() < bps || out.len() < 3 {
         return 0;
     }
-    if llr.len() < bps {
-        return 0;
-    }
-    if out.len() < 3 {
-        return 0;
-    }
-    let s = soft::soft_point(llr, pts, bps);
+    let s = soft::soft_point(llr, &Points { bps, pts: *pts });
     put3(out, s.mean, s.var);
     1
 }

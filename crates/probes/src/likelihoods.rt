@@ -1,4 +1,5 @@
-// demap: by a table that the caller made. What has no answer gives 0, and a list that is too short is left as it was.
+// demap: by a table that the caller made. What has no answer gives 0, since C has no Option, and a list that is too
+// short is left as it was.
 ghost use Rattle.std.specs.Prelude.{◌≡◌, ◌&&◌, leb, length};
 ghost use Rattle.spread.specs.Flat.{flat};
 ghost use Rattle.demap.specs.Demap.{likelihoods};
@@ -6,9 +7,9 @@ ghost use Rattle.demap.specs.Decide.{decide_of};
 ghost use Rattle.probes.specs.Within.{Put};
 ghost use Rattle.probes.specs.Demapping.{cell_of};
 
-use crate::lists::put2;
 use demap::Cell;
 use dsp::Complex;
+use points::Points;
 
 // demap's Cell: y, the estimate h and its error, and the noise.
 #[repr(C)]
@@ -22,33 +23,26 @@ pub struct Received {
     pub sigma2: f32,
 }
 
-fn cell_of(r: Received) -> Cell
-    ensures { result ≡ cell_of r }
-{
-    Cell {
-        y: Complex {
-            re: r.y_re,
-            im: r.y_im,
-        },
-        h: Complex {
-            re: r.h_re,
-            im: r.h_im,
-        },
-        mse: r.mse,
-        sigma2: r.sigma2,
+impl From<Received> for Cell {
+    ghost from_gives = { λ received cell. cell ≡ cell_of received };
+
+    fn from(r: Received) -> Cell {
+        Cell {
+            y: Complex::new(r.y_re, r.y_im),
+            h: Complex::new(r.h_re, r.h_im),
+            mse: r.mse,
+            sigma2: r.sigma2,
+        }
     }
 }
 
 pub fn probe_demap(pts: &[f32; 128], bps: usize, r: Received, out: &mut [f32]) -> u32
     ensures { Put (leb bps 6 && leb bps (length out.old)) bps (likelihoods (cell_of r) pts.now bps) out.old result out.new }
 {
-    if bps > 6 {
+    if bps > 6 || out.len() < bps {
         return 0;
     }
-    if out.len() < bps {
-        return 0;
-    }
-    demap::demap(cell_of(r), pts, bps, out);
+    demap::demap(Cell::from(r), &Points { bps, pts: *pts }, out);
     1
 }
 
@@ -56,13 +50,10 @@ pub fn probe_demap(pts: &[f32; 128], bps: usize, r: Received, out: &mut [f32]) -
 pub fn probe_decide(pts: &[f32; 128], bps: usize, r: Received, out: &mut [f32]) -> u32
     ensures { Put (leb bps 6 && leb 2 (length out.old)) 2 (flat (decide_of (cell_of r).y (cell_of r).h pts.now bps)) out.old result out.new }
 {
-    if bps > 6 {
+    if bps > 6 || out.len() < 2 {
         return 0;
     }
-    if out.len() < 2 {
-        return 0;
-    }
-    let c = cell_of(r);
-    put2(out, demap::decide(c.y, c.h, pts, bps));
+    let c = Cell::from(r);
+    demap::decide(c.y, c.h, &Points { bps, pts: *pts }).put(out, 0);
     1
 }

@@ -4,20 +4,11 @@ ghost use Rattle.spread.specs.Flat.{flat};
 
 use dsp::Complex;
 
-pub fn put2(out: &mut [f32], z: Complex)
-    requires { 2 ≤ length out.old }
-    ensures { out.new ≡ flat z ++ drop 2 out.old }
-{
-    out[0] = z.re;
-    out[1] = z.im;
-}
-
 pub fn put3(out: &mut [f32], z: Complex, x: f32)
     requires { 3 ≤ length out.old }
     ensures { out.new ≡ (z.re ∷ z.im ∷ x ∷ []) ++ drop 3 out.old }
 {
-    out[0] = z.re;
-    out[1] = z.im;
+    z.put(out, 0);
     out[2] = x;
 }
 
@@ -25,5 +16,5 @@ pub fn put128(out: &mut [f32], v: &[f32; 128])
     requires { (128 ≤ length out.old) × (length v.now ≡ 128) }
     ensures { out.new ≡ v.now ++ drop 128 out.old }
 {
-    dsp::copy(v, out, 128);
+    out[..128].copy_from_slice(v);
 }

@@ -1,4 +1,5 @@
-// load: a list that is too short, or more symbols than a burst has, gives 0 and leaves the work lists as they were.
+// load: a list that is too short, or more symbols than a burst has, gives 0, since C has no Option, and leaves the work
+// lists as they were.
 ghost use Rattle.std.specs.Prelude.{◌≤◌};
 ghost use Rattle.load.specs.Fit.{Room};
 ghost use Rattle.probes.specs.Loading.{Small, Sourced, Long, Misses, Loading};
@@ -6,8 +7,8 @@ ghost use Rattle.probes.specs.Loading.{Small, Sourced, Long, Misses, Loading};
 use layout::Map;
 use load::Source;
 
-// Layout by number, sparse pilots, the data pilots' gain, data symbols, the reference symbol's boost, the channel's mean power, the points' mean
-// energy.
+// Layout by number, sparse pilots, the data pilots' gain, data symbols, the reference symbol's boost, the channel's
+// mean power, the points' mean energy.
 #[repr(C)]
 #[derive(Clone, Copy)]
 pub struct Settings {
@@ -42,16 +43,7 @@ fn short(s: Source, sigma: &[f32], cells: &[f32], expected: &[f32]) -> bool
 {
     let m = s.map;
     let n = (s.ng - m.hdr_end) * s.dc;
-    if sigma.len() < m.nc {
-        return true;
-    }
-    if cells.len() < n {
-        return true;
-    }
-    if expected.len() < 3 * n {
-        return true;
-    }
-    false
+    sigma.len() < m.nc || cells.len() < n || expected.len() < 3 * n
 }
 
 // The same of the grid and the work lists.
@@ -61,16 +53,7 @@ fn no_room(s: Source, grid: &[f32], w: &[u32], pf: &[f32]) -> bool
 {
     let m = s.map;
     let n = s.ng * m.nc;
-    if grid.len() < 2 * n {
-        return true;
-    }
-    if w.len() < 2 * n + s.ng + 1 {
-        return true;
-    }
-    if pf.len() < 3 * n {
-        return true;
-    }
-    false
+    grid.len() < 2 * n || w.len() < 2 * n + s.ng + 1 || pf.len() < 3 * n
 }
 
 pub fn probe_load(
@@ -88,10 +71,7 @@ pub fn probe_load(
         return 0;
     }
     let source = source_of(s);
-    if short(source, sigma, cells, expected) {
-        return 0;
-    }
-    if no_room(source, grid, w, pf) {
+    if short(source, sigma, cells, expected) || no_room(source, grid, w, pf) {
         return 0;
     }
     load::load(source, grid, sigma, cells, expected, w, pf)

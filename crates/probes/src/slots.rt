@@ -1,4 +1,4 @@
-// bits: what has no answer gives 0, and a list that does not fit is left as it was.
+// bits: what has no answer gives 0, since C has no Option, and a list that does not fit is left as it was.
 ghost use Rattle.std.specs.Prelude.{◌≡◌, cond, ◌&&◌, leb, ltb, length};
 ghost use Rattle.bits.specs.Mix.{mix_of, scramble_of};
 ghost use Rattle.bits.specs.Step.{step_of};
@@ -29,22 +29,16 @@ pub fn probe_interleave_step(n: usize) -> usize
 pub fn probe_slot(n: usize, i: usize) -> usize
     ensures { result ≡ cond (leb n longest) (cond (ltb i n) (slot_of n i) 0) 0 }
 {
-    if n > 607662 {
+    if n > 607662 || i >= n {
         return 0;
     }
-    if i < n { bits::slot(n, i) } else { 0 }
+    bits::slot(n, i)
 }
 
 pub fn probe_to_slots(prior: &[f32], n: usize, out: &mut [f32]) -> u32
     ensures { Put (leb 1 n && leb n longest && leb n (length out.old)) n (slot_priors n prior.now) out.old result out.new }
 {
-    if n == 0 {
-        return 0;
-    }
-    if n > 607662 {
-        return 0;
-    }
-    if n > out.len() {
+    if n == 0 || n > 607662 || n > out.len() {
         return 0;
     }
     bits::to_slots(prior, n, out);
@@ -54,16 +48,7 @@ pub fn probe_to_slots(prior: &[f32], n: usize, out: &mut [f32]) -> u32
 pub fn probe_from_slots(slots: &[f32], n: usize, out: &mut [f32]) -> u32
     ensures { Put (leb 1 n && leb n longest && leb n (length out.old) && leb n (length slots.now)) n (bit_order n slots.now) out.old result out.new }
 {
-    if n == 0 {
-        return 0;
-    }
-    if n > 607662 {
-        return 0;
-    }
-    if n > out.len() {
-        return 0;
-    }
-    if n > slots.len() {
+    if n == 0 || n > 607662 || n > out.len() || n > slots.len() {
         return 0;
     }
     bits::from_slots(slots, n, out);

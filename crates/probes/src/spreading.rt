@@ -1,18 +1,20 @@
-// spread: what is past the m complex numbers is left as it was, and all of it where m does not fit.
+// spread: what is past the m complex numbers is left as it was, and all of it where m does not fit: 0 says so, since C
+// has no Option.
 ghost use Rattle.std.specs.Prelude.{◌≡◌, cond, ◌&&◌, ◌*◌, leb, length};
 ghost use Rattle.spread.specs.Spreader.{twiddles_of, forward_of, inverse_of};
 ghost use Rattle.probes.specs.Within.{Put};
 
+use spread::Spreader;
+
 pub fn probe_twiddles(m: usize, tw: &mut [f32; 218]) -> u32
     ensures { (result ≡ cond (leb 1 m && leb m 109) 1 0) × (tw.new ≡ cond (leb 1 m && leb m 109) (twiddles_of m) tw.old) }
 {
-    if m == 0 {
+    if m == 0 || m > 109 {
         return 0;
     }
-    if m > 109 {
-        return 0;
-    }
-    *tw = spread::twiddles(m);
+    // In two steps: tried, a field that is an array does not prove when stored straight.
+    let made = Spreader::new(m).tw;
+    *tw = made;
     1
 }
 
@@ -20,33 +22,24 @@ pub fn probe_twiddles(m: usize, tw: &mut [f32; 218]) -> u32
 pub fn probe_forward(tw: &[f32; 218], m: usize, v: &mut [f32]) -> u32
     ensures { Put (leb m 109 && leb (2 * m) (length v.old)) (2 * m) (forward_of m tw.now v.old) v.old result v.new }
 {
-    if m > 109 {
+    if m > 109 || v.len() < 2 * m {
         return 0;
     }
-    if v.len() < 2 * m {
-        return 0;
-    }
-    spread::forward(tw, m, v);
+    Spreader { m, tw: *tw }.forward(v);
     1
 }
 
 pub fn probe_spread(m: usize, inverse: bool, v: &mut [f32]) -> u32
     ensures { Put (leb 1 m && leb m 109 && leb (2 * m) (length v.old)) (2 * m) (cond inverse (inverse_of m (twiddles_of m) v.old) (forward_of m (twiddles_of m) v.old)) v.old result v.new }
 {
-    if m == 0 {
+    if m == 0 || m > 109 || v.len() < 2 * m {
         return 0;
     }
-    if m > 109 {
-        return 0;
-    }
-    if v.len() < 2 * m {
-        return 0;
-    }
-    let tw = spread::twiddles(m);
+    let sp = Spreader::new(m);
     if inverse {
-        spread::inverse(&tw, m, v);
-        return 1;
+        sp.inverse(v);
+    } else {
+        sp.forward(v);
     }
-    spread::forward(&tw, m, v);
     1
 }

@@ -1,4 +1,4 @@
-// layout: what has no answer gives 0xFFFF or 0. Numbers past 8 name the last layout.
+// layout: what has no answer gives 0xFFFF or 0, and a layout is a number, as C asks. Numbers past 8 name the last.
 ghost use Rattle.std.specs.Prelude.{◌≡◌, cond, not, ◌&&◌, leb, ltb, length};
 ghost use Rattle.ieee.specs.Num.{one32};
 ghost use Rattle.layout.specs.Layouts.{layout_of};

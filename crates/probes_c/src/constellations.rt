@@ -1,4 +1,5 @@
-// points and soft: a list that does not fit is left as it was. Codes past 3 name the last constellation.
+// points and soft: a list that does not fit is left as it was, and 0 is answered. Codes past 3 name the last
+// constellation. Numbers answer and name here, since C has no Option and no enum with values.
 ghost use Rattle.std.specs.Prelude.{◌≡◌, cond, ◌&&◌, ◌++◌, leb, length, drop};
 ghost use Rattle.dsp.specs.Arithmetic.{complex};
 ghost use Rattle.points.specs.Constellation.{points_of};

@@ -1,4 +1,4 @@
-// elementary: outside a function's domain the answer is a not-a-number.
+// elementary: outside a function's domain the answer is a not-a-number, since C has no Option.
 ghost use Rattle.std.specs.Prelude.{◌≡◌, not, leb};
 ghost use Rattle.std.specs.Float.Ieee.{lt, le, neg};
 ghost use Rattle.elementary.specs.Constants.{zero+, unit, least, most};

@@ -1,4 +1,5 @@
-// demap: by a table that the caller made. What has no answer gives 0, and a list that is too short is left as it was.
+// demap: by a table that the caller made. What has no answer gives 0, since C has no Option, and a list that is too
+// short is left as it was.
 ghost use Rattle.std.specs.Prelude.{◌≡◌, ◌&&◌, leb, length};
 ghost use Rattle.spread.specs.Flat.{flat};
 ghost use Rattle.demap.specs.Demap.{likelihoods};

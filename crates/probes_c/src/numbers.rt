@@ -1,4 +1,4 @@
-// ieee: every f32 and f64 is taken.
+// ieee: every f32 and f64 is taken. A function for each of the two types, since C calls no generic one.
 ghost use Rattle.std.specs.Prelude.{◌≡◌};
 ghost use Rattle.std.specs.Float.{binary32, binary64};
 ghost use Rattle.ieee.specs.Narrow.{narrowed};

@@ -1,4 +1,5 @@
-// load: a list that is too short, or more symbols than a burst has, gives 0 and leaves the work lists as they were.
+// load: a list that is too short, or more symbols than a burst has, gives 0, since C has no Option, and leaves the work
+// lists as they were.
 ghost use Rattle.std.specs.Prelude.{◌≤◌};
 ghost use Rattle.load.specs.Fit.{Room};
 ghost use Rattle.probes.specs.Loading.{Small, Sourced, Long, Misses, Loading};

@@ -1,4 +1,5 @@
-// spread: what is past the m complex numbers is left as it was, and all of it where m does not fit.
+// spread: what is past the m complex numbers is left as it was, and all of it where m does not fit: 0 says so, since C
+// has no Option.
 ghost use Rattle.std.specs.Prelude.{◌≡◌, cond, ◌&&◌, ◌*◌, leb, length};
 ghost use Rattle.spread.specs.Spreader.{twiddles_of, forward_of, inverse_of};
 ghost use Rattle.probes.specs.Within.{Put};

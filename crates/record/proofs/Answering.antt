@@ -8,6 +8,8 @@ use borrow.Author.Tests.{le-leb, lt-leb, eq-eqb, ne_eqb, eqb-true}
 use lib.ListN.{length}
 use lib.Dec.{leb, eqb}
 use Rattle.seq.specs.Tab.Laws.{length_tab}
+use Rattle.cause.specs.declared.Cause.{Cause}
+use Rattle.cause.specs.Causes.{cause_number}
 use Rattle.table.specs.Rows.{bad_layout, bad_codes, bad_symbols, bad_grid, bad_variances}
 use Rattle.table.specs.Sizes.{nc_of, ncell_of, grid_cells}
 use Rattle.table.specs.Refusals.{refusal_of}
@@ -16,6 +18,7 @@ use Rattle.wire.specs.Shape.{bad_record, bad_length, shape_refusal, answer_lengt
 use Rattle.record.specs.Refusals.{refusal_in}
 use Rattle.record.specs.Answer.{answer_bytes, channel_bytes, Answers, AnswersBoth}
 use Rattle.record.specs.Judging.{Judges}
+use Rattle.wire.proofs.Rows.{some_number}
 use Rattle.wire.proofs.Shaped.{passed, shaped}
 
 module _ (rec : List ℕ) where
@@ -50,8 +53,8 @@ module _ (rec : List ℕ) where
         → AnswersBoth rec q out out channel channel
     turned_away q h e = record { result = e; accepted = λ z. absurd (h z); refused = λ z. (refl, refl) }
 
-    pub bad_shape : (q : ℕ) → q ≡ shape_refusal rec → (q ≡ 0 → ⊥) → AnswersBoth rec q out out channel channel
-    bad_shape q e h = turned_away q h (e ∙ sym (unshaped_refusal _ (λ z. h (e ∙ z))))
+    pub bad_shape : (cause : Cause) → cause_number cause ≡ shape_refusal rec → AnswersBoth rec (cause_number cause) out out channel channel
+    bad_shape cause e = turned_away _ (some_number cause) (e ∙ sym (unshaped_refusal _ (λ z. some_number cause (e ∙ z))))
 
     pub no_answer : shape_refusal rec ≡ 0 → length out < answer_length rec → AnswersBoth rec 6 out out channel channel
     no_answer h l = turned_away 6 (λ z. omega arith) (rw (lt-leb (answer_length rec) (length out) l) (no_room h ∙ sym (shaped_refusal false h)))

@@ -1,26 +1,23 @@
 -- The burst that is cut out of a record's numbers is the record's burst. Assumes nothing.
-use Prim.Native.Nat.{ℕ, ◌+◌, ◌-◌, ◌*◌, ◌/◌, ◌≤◌, ◌<◌}
+use Prim.Native.Nat.{ℕ, ◌+◌, ◌-◌, ◌*◌, ◌/◌, ◌≤◌}
 use mathlib.Core.Path.{◌≡◌, refl, sym, ap, ◌∙◌}
-use mathlib.Core.List.{List, ◌++◌}
+use mathlib.Core.List.{List}
 use native.Mathlib.Omega.{arith}
-use lib.ListN.{length, take, drop, length-drop}
-use lib.Seq.{take_at, take_all, get_or-take, get_or-drop, length-take-le}
+use lib.ListN.{length, take, drop, get_or, length-drop}
+use lib.Seq.{take_all, drop-drop, get_or-take, get_or-drop, length-take-le}
 use lib.Ieee.{Float, nan}
-use mir.Syntax.{w64}
-use mir.Val.{Fits}
 use Rattle.seq.specs.Tab.{tab}
 use Rattle.seq.specs.Tab.Laws.{length_tab, get_d_tab, tab_only}
 use Rattle.refine.specs.declared.settings.Settings.{Settings}
 use Rattle.refine.specs.Refine.{burst, nbits, ncell}
-use Rattle.phy.specs.declared.refinement.Refinement.{Refinement}
-use Rattle.table.specs.Sizes.{Counted}
 use Rattle.wire.specs.declared.fields.Fields.{Fields}
 use Rattle.wire.specs.declared.shape.Sizes.{Sizes}
 use Rattle.wire.specs.Record.{head, fields_of, fields, settings, settings_of, number_at, burst_of, prior_of, count_of}
 use Rattle.wire.specs.Sizes.{plain, sizes_of}
-use Rattle.record.specs.Judging.{settings_in, burst_in, prior_in, Short, Whole, Refining, Judges}
+use Rattle.record.specs.Judging.{settings_in, burst_in, prior_in, Short, Whole, Judges}
 use Rattle.wire.proofs.Reading.{same_sizes, counted_numbers}
-use Rattle.wire.proofs.Shaped.{Shaped, counting}
+use Rattle.wire.specs.Shape.{shape_refusal, answer_length, channel_length}
+use Rattle.wire.proofs.Shaped.{Shaped, shaped, counting}
 
 -- k elements from place a
 part_tab : (n a k : ℕ) (f : ℕ → Float) → a + k ≤ n → take k (drop a (tab n f)) ≡ tab k (λ i. f (a + i))
@@ -33,10 +30,6 @@ part_tab n a k f h =
 rest_tab : (n a k : ℕ) (f : ℕ → Float) → n ≡ a + k → drop a (tab n f) ≡ tab k (λ i. f (a + i))
 rest_tab n a k f h =
     sym (take_all k (drop a (tab n f)) (omega (arith, length-drop a (tab n f), length_tab f n))) ∙ part_tab n a k f (omega arith)
-
--- what stands in a page
-pub in_page : (n : ℕ) (f : ℕ → Float) (l : List Float) → take n (tab n f ++ drop n l) ≡ tab n f
-in_page n f l = take_at (tab n f) (drop n l) n (length_tab f n)
 
 module _ (rec : List ℕ) (n : ℕ) (e : n ≡ count_of rec) where
   abbrev nums : List Float
@@ -94,30 +87,6 @@ pub as_many : (rec : List ℕ) → Shaped rec → (length rec - 6) / 4 ≡ count
 as_many rec h = omega (arith, h.length_is)
 
 -- the sizes of the burst in its numbers, whatever these are
--- k fit into a list that was n long and still is
-pub prefix_in : {k n a b : ℕ} → k ≤ n → a ≡ b → n ≡ b → k ≤ a
-prefix_in h e e' = omega arith
-
--- The code cuts n numbers at three, at a, at b and at c. These lie in this order, and each, and its place in bytes, fits a word.
-pub record Cut (z : Sizes) (n : ℕ) : Type 0 where
-  pub three : 2 < n
-  pub a : Fits w64 (3 + z.nc)
-  pub b : Fits w64 (3 + z.nc + z.ncell)
-  pub samples : Fits w64 (2 * z.grid)
-  pub c : Fits w64 (3 + z.nc + z.ncell + 2 * z.grid)
-  pub a_offset : Fits w64 ((3 + z.nc) * 4)
-  pub b_offset : Fits w64 ((3 + z.nc + z.ncell) * 4)
-  pub c_offset : Fits w64 ((3 + z.nc + z.ncell + 2 * z.grid) * 4)
-  pub to_a : 3 ≤ 3 + z.nc
-  pub to_b : 3 + z.nc ≤ 3 + z.nc + z.ncell
-  pub to_c : 3 + z.nc + z.ncell ≤ 3 + z.nc + z.ncell + 2 * z.grid
-  pub a_within : 3 + z.nc ≤ n
-  pub b_within : 3 + z.nc + z.ncell ≤ n
-  pub c_within : 3 + z.nc + z.ncell + 2 * z.grid ≤ n
-
-cut_of : (z : Sizes) (n : ℕ) → 3 + z.nc + z.ncell + 2 * z.grid ≤ n → n ≤ 2046 → Cut z n
-cut_of z n h h' = omega arith
-
 module _ (f : Fields) (nums : List Float) where
   pub bits_in : nbits (burst_in f nums) ≡ (sizes_of f).nbits
   unfolding burst_in settings_in settings_of sizes_of
@@ -137,9 +106,6 @@ module _ (f : Fields) where
   unfolding sizes_of
   few z e h = rw e (record { bits = h.bits; cells = h.cells })
 
-  pub cuts_at : (z : Sizes) (nums : List Float) → z ≡ sizes_of f → Whole f nums → Cut z (length nums)
-  cuts_at z nums e h = cut_of z (length nums) (rw e h.count) h.few
-
   -- no number of the settings is read for them
   pub short_in : (a b c : Float) → Short (plain f) → Short (settings_of f a b c)
   unfolding settings_of
@@ -147,42 +113,45 @@ module _ (f : Fields) where
 
 -- ---- the parts that are lent to the refinement
 
-pub cut_out : (f : Fields) (nums : List Float) (z : Sizes) (s : Settings) (r : Refinement) (answer₀ answer₁ channel₀ channel₁ : List Float) → z ≡ sizes_of f → s ≡ settings_in f nums
-    → let a = 3 + z.nc in
-    let b = a + z.ncell in
-    let c = b + 2 * z.grid in
-    Refining (burst s (take (c - b) (drop b nums)) (take (a - 3) (drop 3 nums)) (take (b - a) (drop a nums))) (take (length nums - c) (drop c nums)) r answer₀ answer₁ channel₀ channel₁
-    → Refining (burst_in f nums) (prior_in f nums) r answer₀ answer₁ channel₀ channel₁
-unfolding burst_in prior_in
-cut_out f nums z s r answer₀ answer₁ channel₀ channel₁ ez es p =
-    let a = 3 + z.nc in
-    let b = a + z.ncell in
-    let c = b + 2 * z.grid in
-    let ea : a - 3 ≡ z.nc = omega arith in
-    let eb : b - a ≡ z.ncell = omega arith in
-    let ec : c - b ≡ 2 * z.grid = omega arith in
-    let rest : take (length nums - c) (drop c nums) ≡ drop c nums = take_all (length nums - c) (drop c nums) (omega (arith, length-drop c nums)) in
-    rw (← ez, ← es) (rw (ea, eb, ec, rest) at p)
+pub first_settings : (f : Fields) (nums first : List Float) (s : Settings) → first ≡ take 3 nums
+    → s ≡ settings_of f (get_or first 0 nan) (get_or first 1 nan) (get_or first 2 nan) → s ≡ settings_in f nums
+unfolding settings_in
+first_settings f nums first s h e = rw (e, h, get_or-take 3 nums 0 nan (omega arith), get_or-take 3 nums 1 nan (omega arith), get_or-take 3 nums 2 nan (omega arith)) refl
+
+module _ (f : Fields) (nums : List Float) (z : Sizes) (s : Settings) (sigma cells grid prior r₁ r₂ r₃ : List Float)
+    (ez : z ≡ sizes_of f) (es : s ≡ settings_in f nums)
+    (e₁ : r₁ ≡ drop 3 nums) (es₁ : sigma ≡ take z.nc r₁) (e₂ : r₂ ≡ drop z.nc r₁) (es₂ : cells ≡ take z.ncell r₂) (e₃ : r₃ ≡ drop z.ncell r₂)
+    (es₃ : grid ≡ take (2 * z.grid) r₃) (e₄ : prior ≡ drop (2 * z.grid) r₃) where
+  at₂ : r₂ ≡ drop (3 + z.nc) nums
+  at₂ = rw (e₂, e₁) (drop-drop z.nc 3 nums)
+
+  at₃ : r₃ ≡ drop (3 + z.nc + z.ncell) nums
+  at₃ = rw (e₃, at₂) (drop-drop z.ncell (3 + z.nc) nums)
+
+  pub cut_burst : burst s grid sigma cells ≡ burst_in f nums
+  unfolding burst_in
+  cut_burst = rw (es₃, at₃, es₁, e₁, es₂, at₂, es, ez) refl
+
+  pub cut_prior : prior ≡ prior_in f nums
+  unfolding prior_in
+  cut_prior = rw (e₄, at₃, ez) (drop-drop _ _ nums)
 
 -- ---- what a call of `judge` is handed
 
-module _ (rec : List ℕ) (f : Fields) (n h : ℕ) (nums page : List Float) (eh : h ≡ head rec) (ef : f ≡ fields_of h) (shape : Shaped rec) (en : n ≡ (length rec - 6) / 4)
-    (filled : nums ≡ tab n (number_at rec) ++ drop n page) where
+module _ (rec : List ℕ) (f : Fields) (h n : ℕ) (nums : List Float) (eh : h ≡ head rec) (ef : f ≡ fields_of h) (shape : Shaped rec) (en : n ≡ (length rec - 6) / 4)
+    (filled : nums ≡ tab n (number_at rec)) where
   read : f ≡ fields rec
   read = ef ∙ ap fields_of eh
-
-  cut : take n nums ≡ tab n (number_at rec)
-  cut = rw filled (in_page n (number_at rec) page)
 
   counted : n ≡ count_of rec
   counted = en ∙ as_many rec shape
 
-  pub may_judge : Whole f (take n nums)
-  may_judge = rw (read, cut) (whole_numbers rec n counted shape)
+  pub may_judge : Whole f nums
+  may_judge = rw (read, filled) (whole_numbers rec n counted shape)
 
-  pub of_record : (r : ℕ) (out₀ out₁ channel₀ channel₁ : List ℕ) → Judges (burst_in f (take n nums)) (prior_in f (take n nums)) r out₀ out₁ channel₀ channel₁
+  pub of_record : (r : ℕ) (out₀ out₁ channel₀ channel₁ : List ℕ) → Judges (burst_in f nums) (prior_in f nums) r out₀ out₁ channel₀ channel₁
       → Judges (burst_of rec) (prior_of rec) r out₀ out₁ channel₀ channel₁
-  of_record r out₀ out₁ channel₀ channel₁ j = rw (read, cut, same_burst rec n counted, same_prior rec n counted) at j
+  of_record r out₀ out₁ channel₀ channel₁ j = rw (read, filled, same_burst rec n counted, same_prior rec n counted) at j
 
 -- the sizes of a record's burst, as they were counted
 module _ (rec : List ℕ) (f : Fields) (h : ℕ) (eh : h ≡ head rec) (ef : f ≡ fields_of h) where
@@ -192,9 +161,24 @@ module _ (rec : List ℕ) (f : Fields) (h : ℕ) (eh : h ≡ head rec) (ef : f �
   pub cells_counted : ncell (burst_of rec) ≡ (sizes_of f).ncell
   cells_counted = rw (ef, eh) (cells_of rec)
 
-  pub may_count : Shaped rec → Counted (plain f)
-  may_count s = rw (ef, eh) (counting rec s.symbols)
-
   pub short_record : Shaped rec → Short (plain f)
   unfolding settings settings_of
   short_record s = rw (ef, eh) (record { counted = counting rec s.symbols; bits = s.bits; cells = s.channel; work = s.work })
+
+-- and what is told of them
+pub record Sized (rec : List ℕ) (z : Sizes) : Type 0 where
+  pub bits : z.nbits ≤ 4086
+  pub cells : 3 * z.ncell ≤ 2043
+  pub answer : 10 + 4 * z.nbits ≡ answer_length rec
+  pub channel : 4 * (3 * z.ncell) ≡ channel_length rec
+
+pub sized : (rec : List ℕ) (z : Sizes) → 0 ≡ shape_refusal rec → z ≡ sizes_of (fields rec) → Sized rec z
+sized rec z h e =
+    let f = fields rec in
+    let w = few f z e (short_record rec f (head rec) refl refl (shaped rec (sym h))) in
+    record {
+      bits = w.bits;
+      cells = w.cells;
+      answer = ap (λ (n : ℕ). 10 + 4 * n) (ap (λ (z : Sizes). z.nbits) e ∙ sym (bits_counted rec f (head rec) refl refl));
+      channel = ap (λ (n : ℕ). 4 * (3 * n)) (ap (λ (z : Sizes). z.ncell) e ∙ sym (cells_counted rec f (head rec) refl refl));
+    }

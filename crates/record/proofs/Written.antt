@@ -16,7 +16,7 @@ use Rattle.wire.specs.Record.{burst_of, prior_of}
 use Rattle.wire.specs.Bytes.{number_bytes, report_bytes}
 use Rattle.record.specs.Answer.{answer_bytes, channel_bytes}
 use Rattle.wire.proofs.Digits.{four_bytes}
-use Rattle.wire.proofs.Stored.{length_report}
+use Rattle.wire.proofs.Laid.{length_report}
 
 -- ---- a number
 

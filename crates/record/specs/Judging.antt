@@ -1,13 +1,14 @@
 -- What the functions below the two calls give: a burst cut out of its numbers, and its refinement written in bytes.
-use Rattle.std.specs.Prelude.{ℕ, ◌+◌, ◌*◌, ◌≤◌, ◌≡◌, true, List, ◌++◌, length, take, drop, get_or, Float}
+use Rattle.std.specs.Prelude.{ℕ, ◌+◌, ◌*◌, ◌≤◌, ◌≡◌, true, List, ◌++◌, length, take, drop, get_or, Float, Result}
 use Rattle.std.specs.Float.{nan}
 use Rattle.refine.specs.declared.settings.Settings.{Settings}
 use Rattle.refine.specs.Refine.{Burst, burst, ncell, nbits, refined_of, answer_of, channel_of}
-use Rattle.phy.specs.declared.refinement.Refinement.{Refinement}
-use Rattle.phy.specs.declared.refinement.Refinement.TheVariants.{Accepted, Refused}
+use Rattle.refine.specs.declared.whole.Refined.{Refined}
+use Rattle.cause.specs.declared.Cause.{Cause}
+use Rattle.cause.specs.Causes.{number_of}
 use Rattle.table.specs.Sizes.{Counted, ncell_of, nbits_of, work_length}
 use Rattle.table.specs.Refusals.{refusal_of}
-use Rattle.phy.specs.Entry.{number_of, Refines}
+use Rattle.phy.specs.Entry.{Refines}
 use Rattle.wire.specs.declared.fields.Fields.{Fields}
 use Rattle.wire.specs.Record.{settings_of}
 use Rattle.wire.specs.Sizes.{plain, sizes_of}
@@ -43,30 +44,11 @@ pub record Whole (f : Fields) (nums : List Float) : Type 0 where
 -- ---- its refinement
 
 -- with a work area that is enough
-pub record Refining (b : Burst) (prior : List Float) (r : Refinement) (answer₀ answer₁ channel₀ channel₁ : List Float) : Type 0 where
+pub record Refining (b : Burst) (prior : List Float) (r : Result Refined Cause) (answer₀ answer₁ channel₀ channel₁ : List Float) : Type 0 where
   pub number : number_of r ≡ refusal_of b prior true
   pub accepted : refusal_of b prior true ≡ 0 → Refines b prior r answer₀ answer₁ channel₀ channel₁
 
 -- ---- in bytes
-
--- each index is a byte
-abbrev pub InBytes : Refinement → Type 0
-InBytes (Accepted m) = (m.fd ≤ 255) × (m.tm ≤ 255)
-InBytes (Refused cause) = Unit {0}
-
--- what the outputs hold afterwards: where the burst is refused, what they held before
-abbrev pub answer_after : Refinement → (answer : List Float) → (before : List ℕ) → List ℕ
-answer_after (Accepted m) answer before = (report_bytes m ++ number_bytes (length answer) answer) ++ drop (10 + 4 * length answer) before
-answer_after (Refused cause) answer before = before
-
-abbrev pub channel_after : Refinement → (channel : List Float) → (before : List ℕ) → List ℕ
-channel_after (Accepted m) channel before = number_bytes (length channel) channel ++ drop (4 * length channel) before
-channel_after (Refused cause) channel before = before
-
-pub record Written (r : Refinement) (answer channel : List Float) (n : ℕ) (out₀ out₁ channel₀ channel₁ : List ℕ) : Type 0 where
-  pub number : n ≡ number_of r
-  pub out : out₁ ≡ answer_after r answer out₀
-  pub channel_bytes_lem : channel₁ ≡ channel_after r channel channel₀
 
 -- what a burst's numbers come to, where the outputs have room
 pub record Judges (b : Burst) (prior : List Float) (n : ℕ) (out₀ out₁ channel₀ channel₁ : List ℕ) : Type 0 where

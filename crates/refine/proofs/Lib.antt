@@ -2,6 +2,7 @@ mod Exact
 mod Hearing
 mod EachSymbol
 mod Sliced
+mod Counted
 pub mod Ready
 mod Joined
 pub mod Blanked

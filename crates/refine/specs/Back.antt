@@ -3,12 +3,16 @@ use Rattle.std.specs.Prelude.{ℕ, ◌+◌, ◌*◌, ◌≤◌, ◌≡◌, List,
 use Rattle.load.specs.declared.pilot.Pilot.{Pilot}
 use Rattle.load.specs.declared.found.Source.{Source}
 use Rattle.load.specs.Fit.{ncell, places}
+use Rattle.load.specs.Pilots.{listed, OnGrid}
+use Rattle.est.specs.declared.estimator.Estimator.{Estimator}
 use Rattle.expect.specs.declared.Shape.{Shape}
 use Rattle.model.specs.declared.select.Model.{Model}
 use Rattle.model.specs.Values.{FitModels}
 use Rattle.judge.specs.Fit.{FitCells}
+use Rattle.judge.specs.Symbol.{fitted_in}
 use Rattle.judge.specs.Upto.{Upto}
 use Rattle.refine.specs.declared.settings.Plan.{Plan}
+use Rattle.refine.specs.declared.judging.Heard.{Heard}
 use Rattle.refine.specs.Refine.{fitted_of, carrier_table, symbol_table}
 
 -- the lists that the symbols are judged from and into
@@ -39,3 +43,19 @@ abbrev pub Under : Plan → Model → List Pilot → List ℕ → List Float →
 Under p m ps start pts soft grid cells e a channel answer =
     Upto p.source p.shape (fitted_of p.setting m) ps start (carrier_table p.setting m) (symbol_table p.setting m) pts soft grid cells
     (p.shape.nsym * p.source.dc) e a channel answer
+
+-- what was heard may be judged into these lists
+pub record Judgeable (h : Heard) (channel answer : List Float) : Type 0 where
+  pub agrees : Agrees h.plan
+  pub loaded : OnGrid h.pilots h.plan.source.map.nc h.plan.source.ng
+  pub symbols : Symbols h.plan.source h.plan.shape h.soft.now h.grid.now h.cells.now channel answer
+  pub bits : h.unit.now.bps ≡ h.plan.shape.bps
+
+abbrev pub JudgedWith : Heard → Estimator → (e a channel answer : List Float) → Type 0
+JudgedWith h r e a channel answer =
+    Upto h.plan.source h.plan.shape (fitted_in r) (listed r.pilots) r.pilots.start.now r.rf.now r.rt.now h.unit.now.pts h.soft.now h.grid.now h.cells.now
+    (h.plan.shape.nsym * h.plan.source.dc) e a channel answer
+
+abbrev pub JudgedUnder : Heard → Model → (e a channel answer : List Float) → Type 0
+JudgedUnder h m e a channel answer =
+    Under h.plan m (listed h.pilots) h.pilots.start.now h.unit.now.pts h.soft.now h.grid.now h.cells.now e a channel answer

@@ -1,4 +1,5 @@
 pub mod Refine
+pub mod Received
 pub mod Plan
 pub mod Front
 pub mod Back

@@ -6,19 +6,6 @@ ghost use Rattle.refine.specs.Refine.{fitted_of, carrier_table, symbol_table};
 use judge::Fitted;
 use model::{Model, Setting};
 
-// Room for the most carriers, 109, and the most symbols, 12 to each side.
-pub fn carrier_room() -> [f64; 219]
-    ensures { 219 ≡ length result }
-{
-    [0.0; 219]
-}
-
-pub fn symbol_room() -> [f64; 49]
-    ensures { 49 ≡ length result }
-{
-    [0.0; 49]
-}
-
 // Its correlations go to rf and rt.
 pub fn fit(s: Setting, m: Model, rf: &mut [f64], rt: &mut [f64]) -> Fitted
     requires { FitModels s.l × (length rf.old ≡ 2 * s.l.nc + 1) × (length rt.old ≡ 4 * s.l.gw + 1) }

@@ -1,102 +1,102 @@
 // From the loaded pilots to the likelihoods in slot order.
 ghost use Rattle.std.specs.Prelude.{◌≡◌, ◌+◌, ◌*◌, length};
-ghost use Rattle.load.specs.Pilots.{Loaded, pilots};
+ghost use Rattle.load.specs.Pilots.{listed};
+ghost use Rattle.judge.specs.Fit.{Fits};
 ghost use Rattle.model.specs.Select.{select_model};
-ghost use Rattle.refine.specs.Back.{Symbols, Agrees, Under};
+ghost use Rattle.refine.specs.Back.{Judgeable, JudgedWith, JudgedUnder};
 
-use crate::fitted::{carrier_room, fit, symbol_room};
+use crate::fitted::fit;
 use crate::settings::Plan;
-use crate::symbols::judge_symbols;
+use crate::symbols::{judge_symbols, spreader_of};
+use est::Estimator;
+use judge::Judge;
+use load::Pilots;
 use model::Model;
+use points::Points;
 
-// Under model m, whose correlations go to rf and rt.
-fn judge_by(
-    p: Plan,
-    m: Model,
-    pc: &[u32],
-    pg: &[u32],
-    pf: &[f32],
-    start: &[u32],
-    rf: &mut [f64],
-    rt: &mut [f64],
-    pts: &[f32; 128],
-    soft: &[f32],
-    grid: &[f32],
-    cells: &[f32],
-    channel: &mut [f32],
-    answer: &mut [f32],
-)
-    requires agrees { Agrees p × Loaded pc.now pg.now pf.now start.now p.source.map.nc p.source.ng (length pc.now) × Symbols p.source p.shape soft.now grid.now cells.now channel.old answer.old }
-    requires rf_len { (length rf.old ≡ 2 * p.setting.l.nc + 1) × (length rt.old ≡ 4 * p.setting.l.gw + 1) }
-    ensures { Under p m (pilots pc.now pg.now pf.now (length pc.now)) start.now pts.now soft.now grid.now cells.now channel.old answer.old channel.new answer.new }
-{
-    let f = fit(p.setting, m, rf, rt);
-    judge_symbols(
-        p.source, p.shape, f, pc, pg, pf, start, rf, rt, pts, soft, grid, cells, channel, answer,
-    );
+// What was heard of a burst: its pilots, a spread burst's soft points, the points that its likelihoods are about,
+// and what was received. 'w is the work lists' lifetime, 'b the burst's.
+#[derive(Clone, Copy)]
+pub struct Heard<'w, 'b> {
+    pub plan: Plan,
+    pub pilots: Pilots<'w>,
+    pub soft: &'w [f32],
+    pub unit: &'b Points,
+    pub grid: &'b [f32],
+    pub cells: &'b [f32],
 }
 
-// Under model m.
-pub fn judge_under(
-    p: Plan,
-    m: Model,
-    pc: &[u32],
-    pg: &[u32],
-    pf: &[f32],
-    start: &[u32],
-    pts: &[f32; 128],
-    soft: &[f32],
-    grid: &[f32],
-    cells: &[f32],
-    channel: &mut [f32],
-    answer: &mut [f32],
-)
-    requires { Agrees p × Loaded pc.now pg.now pf.now start.now p.source.map.nc p.source.ng (length pc.now) × Symbols p.source p.shape soft.now grid.now cells.now channel.old answer.old }
-    ensures { Under p m (pilots pc.now pg.now pf.now (length pc.now)) start.now pts.now soft.now grid.now cells.now channel.old answer.old channel.new answer.new }
-{
-    let l = p.setting.l;
-    let a = 2 * l.nc + 1;
-    let b = 4 * l.gw + 1;
-    let mut rf = carrier_room();
-    let mut rt = symbol_room();
-    judge_by(
-        p,
-        m,
-        pc,
-        pg,
-        pf,
-        start,
-        &mut rf[..a],
-        &mut rt[..b],
-        pts,
-        soft,
-        grid,
-        cells,
-        channel,
-        answer,
-    );
-}
+impl Heard<'_, '_> {
+    // By an estimator.
+    fn judge_with(&self, e: &Estimator, channel: &mut [f32], answer: &mut [f32])
+        requires judgeable { Judgeable self.now channel.old answer.old }
+        requires fits { Fits self.now.plan.source e.now }
+        ensures { JudgedWith self.now e.now channel.old answer.old channel.new answer.new }
+    {
+        let p = self.plan;
+        let sp = spreader_of(p.shape);
+        let j = Judge {
+            source: p.source,
+            shape: p.shape,
+            estimator: *e,
+            points: self.unit,
+            spreader: &sp,
+            soft: self.soft,
+            grid: self.grid,
+            cells: self.cells,
+        };
+        judge_symbols(&j, channel, answer);
+    }
 
-// Under the model that the pilots bear out best.
-pub fn judge_burst(
-    p: Plan,
-    pc: &[u32],
-    pg: &[u32],
-    pf: &[f32],
-    start: &[u32],
-    pts: &[f32; 128],
-    soft: &[f32],
-    grid: &[f32],
-    cells: &[f32],
-    channel: &mut [f32],
-    answer: &mut [f32],
-) -> Model
-    requires { Agrees p × Loaded pc.now pg.now pf.now start.now p.source.map.nc p.source.ng (length pc.now) × Symbols p.source p.shape soft.now grid.now cells.now channel.old answer.old }
-    ensures { (result ≡ select_model p.setting (pilots pc.now pg.now pf.now (length pc.now)) start.now) × Under p result (pilots pc.now pg.now pf.now (length pc.now)) start.now pts.now soft.now grid.now cells.now channel.old answer.old channel.new answer.new }
-{
-    let m = model::select_model(pc, pg, pf, start, p.setting);
-    judge_under(
-        p, m, pc, pg, pf, start, pts, soft, grid, cells, channel, answer,
-    );
-    m
+    // Under model m, whose correlations go to rf and rt.
+    fn judge_by(
+        &self,
+        m: Model,
+        rf: &mut [f64],
+        rt: &mut [f64],
+        channel: &mut [f32],
+        answer: &mut [f32],
+    )
+        requires judgeable { Judgeable self.now channel.old answer.old }
+        requires tables { (length rf.old ≡ 2 * self.now.plan.setting.l.nc + 1) × (length rt.old ≡ 4 * self.now.plan.setting.l.gw + 1) }
+        ensures { JudgedUnder self.now m channel.old answer.old channel.new answer.new }
+    {
+        let p = self.plan;
+        let f = fit(p.setting, m, rf, rt);
+        let e = Estimator {
+            pilots: self.pilots,
+            rf,
+            rt,
+            scales: f.u,
+            window: f.w,
+            p_h: p.source.p_h,
+            mse_scale: f.scale,
+        };
+        self.judge_with(&e, channel, answer);
+    }
+
+    // Under model m.
+    pub fn judge_under(&self, m: Model, channel: &mut [f32], answer: &mut [f32])
+        requires { Judgeable self.now channel.old answer.old }
+        ensures { JudgedUnder self.now m channel.old answer.old channel.new answer.new }
+    {
+        let l = self.plan.setting.l;
+        // Room for the most carriers, 109, and the most symbols, 12 to each side.
+        let mut rf = [0f64; 219];
+        let mut rt = [0f64; 49];
+        let rf = &mut rf[..2 * l.nc + 1];
+        let rt = &mut rt[..4 * l.gw + 1];
+        self.judge_by(m, rf, rt, channel, answer);
+    }
+
+    // Under the model that the pilots bear out best.
+    pub fn judge_burst(&self, channel: &mut [f32], answer: &mut [f32]) -> Model
+        requires { Judgeable self.now channel.old answer.old }
+        ensures model { result ≡ select_model self.now.plan.setting (listed self.now.pilots) self.now.pilots.start.now }
+        ensures judged { JudgedUnder self.now result channel.old answer.old channel.new answer.new }
+    {
+        let m = model::select_model(&self.pilots, self.plan.setting);
+        self.judge_under(m, channel, answer);
+        m
+    }
 }

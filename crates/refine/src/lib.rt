@@ -2,6 +2,7 @@
 #![tactic(auto)]
 
 mod bit_order;
+mod burst_grid;
 mod expected;
 mod fitted;
 mod judging;
@@ -11,7 +12,8 @@ mod spoilt;
 mod symbols;
 mod whole;
 
-pub use fitted::{carrier_room, fit, symbol_room};
+pub use burst_grid::BurstGrid;
+pub use fitted::fit;
 pub use listening::places_of;
 pub use settings::{Plan, Settings, plan_of, unit_points};
 pub use whole::{Refined, refine};

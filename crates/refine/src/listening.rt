@@ -1,14 +1,13 @@
 // From the priors to the loaded pilots.
-ghost use Rattle.std.specs.Prelude.{◌≡◌, ◌+◌, ◌*◌, ◌≤◌, length, take, drop};
-ghost use Rattle.load.specs.Find.{found_at};
-ghost use Rattle.load.specs.Fit.{FitSource, Room, places};
-ghost use Rattle.load.specs.Work.{Loads};
-ghost use Rattle.refine.specs.Front.{Exact, Expected, Ready, Listened};
+ghost use Rattle.std.specs.Prelude.{◌≡◌, ◌≤◌, length};
+ghost use Rattle.load.specs.Fit.{places};
+ghost use Rattle.refine.specs.Front.{Ready, Listened};
 
+use crate::burst_grid::BurstGrid;
 use crate::expected::expected;
 use crate::settings::Plan;
-use expect::Shape;
 use load::Source;
+use points::Points;
 
 // ng * nc.
 pub fn places_of(s: Source) -> usize
@@ -19,57 +18,23 @@ pub fn places_of(s: Source) -> usize
     s.ng * m.nc
 }
 
-// The soft points of a spread burst are left in wf, from `a` on.
-fn expected_at(
-    m: Shape,
-    unit: &[f32; 128],
-    prior: &[f32],
-    answer: &mut [f32],
-    channel: &mut [f32],
-    wf: &mut [f32],
-    a: usize,
-)
-    requires { Exact m answer.old channel.old channel.old × (a ≤ 354468) × (a + length channel.old ≤ length wf.old) }
-    ensures { Expected m unit.now prior.now (length answer.old) (take (length channel.old) (drop a wf.new)) channel.new }
-{
-    let b = a + channel.len();
-    expected(m, unit, prior, answer, &mut wf[a..b], channel);
-}
-
-// The pilots' numbers are left in wf, below `a`.
-fn load_below(
-    s: Source,
-    grid: &[f32],
-    sigma: &[f32],
-    cells: &[f32],
-    expected: &[f32],
-    wf: &mut [f32],
-    wu: &mut [u32],
-    a: usize,
-) -> usize
-    requires { FitSource s sigma.now cells.now expected.now × Room s grid.now wu.old wf.old × (a ≡ 3 * places s) }
-    ensures { Loads s grid.now (found_at s sigma.now cells.now expected.now) wu.new (take a wf.new) result × (drop a wf.new ≡ drop a wf.old) }
-{
-    load::load(s, grid, sigma, cells, expected, wu, &mut wf[..a])
-}
-
-// How many pilots there are.
+// How many pilots there are. Their numbers are left in wf in front, and after them the soft points of a spread burst.
 pub fn listen(
     p: Plan,
-    unit: &[f32; 128],
-    grid: &[f32],
-    sigma: &[f32],
-    cells: &[f32],
+    unit: &Points,
+    b: &BurstGrid,
     prior: &[f32],
     answer: &mut [f32],
     channel: &mut [f32],
     wf: &mut [f32],
     wu: &mut [u32],
 ) -> usize
-    requires { Ready p grid.now sigma.now cells.now answer.old channel.old wf.old wu.old }
-    ensures { Listened p unit.now prior.now (length answer.old) grid.now sigma.now cells.now channel.new wf.new wu.new result }
+    requires ready { Ready p b.now.grid.now b.now.sigma.now b.now.cells.now answer.old channel.old wf.old wu.old }
+    requires bits { unit.now.bps ≡ p.shape.bps }
+    ensures { Listened p unit.now.pts prior.now (length answer.old) b.now.grid.now b.now.sigma.now b.now.cells.now channel.new wf.new wu.new result }
 {
-    let a = 3 * places_of(p.source);
-    expected_at(p.shape, unit, prior, answer, channel, wf, a);
-    load_below(p.source, grid, sigma, cells, channel, wf, wu, a)
+    let n = channel.len();
+    let (pilots, rest) = wf.split_at_mut(3 * places_of(p.source));
+    expected(p.shape, unit, prior, answer, &mut rest[..n], channel);
+    load::load(p.source, b.grid, b.sigma, b.cells, channel, wu, pilots)
 }

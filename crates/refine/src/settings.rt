@@ -1,14 +1,13 @@
 // What a burst's settings give: its points and its numbers.
-ghost use Rattle.std.specs.Prelude.{◌≡◌, cond, ◌≤◌};
-ghost use Rattle.points.specs.Constellation.{bps_of, points_of};
-ghost use Rattle.points.specs.Power.{scaled_of, mean_energy_of};
-ghost use Rattle.elementary.specs.Gain.{gain_at};
+ghost use Rattle.std.specs.Prelude.{◌≡◌, ◌≤◌};
+ghost use Rattle.points.specs.Constellation.{bps_of};
 ghost use Rattle.refine.specs.Plan.{plan_for, unit_for};
 
 use expect::Shape;
 use layout::Map;
 use load::Source;
 use model::Setting;
+use points::Points;
 
 // What a burst's header and the station say of it: layout and constellation by number, data symbols, sparse pilots, DFT-spread symbols, the
 // code of the points' gain, pilots an estimate may use, the reference symbol's boost, the data pilots' gain, the channel's mean power.
@@ -35,25 +34,17 @@ pub struct Plan {
     pub setting: Setting,
 }
 
-fn mean_energy(code: u32, gain: f32) -> f32
-    ensures { result ≡ mean_energy_of (points_of code).pts (bps_of code) gain }
-{
-    let p = points::points(code);
-    let pts = p.pts;
-    points::mean_energy(&pts, p.bps, gain)
-}
-
 // The points that priors and likelihoods are about: a spread symbol's before they are spread and scaled, an unspread cell's as sent.
-pub fn unit_points(s: Settings) -> [f32; 128]
+pub fn unit_points(s: Settings) -> Points
     requires { s.gain_code ≤ 3 }
-    ensures { result ≡ unit_for s }
+    ensures bits { result.bps ≡ bps_of s.constellation }
+    ensures table { result.pts ≡ unit_for s }
 {
     let p = points::points(s.constellation);
-    let pts = p.pts;
     if s.spread {
-        return pts;
+        return p;
     }
-    points::scaled(&pts, elementary::gain(s.gain_code))
+    p.scaled(elementary::gain(s.gain_code))
 }
 
 pub fn plan_of(s: Settings) -> Plan
@@ -63,6 +54,7 @@ pub fn plan_of(s: Settings) -> Plan
     let l = layout::layout(s.layout);
     let ng = l.ng(s.nsym);
     let dc = l.data_carriers(s.sparse);
+    let p = points::points(s.constellation);
     let gain = elementary::gain(s.gain_code);
     let source = Source {
         map: Map::new(l, s.sparse, s.pilot_gain),
@@ -70,12 +62,12 @@ pub fn plan_of(s: Settings) -> Plan
         ng,
         boost: s.boost,
         p_h: s.p_h,
-        es: mean_energy(s.constellation, gain),
+        es: p.mean_energy(gain),
     };
     let shape = Shape {
         nsym: s.nsym,
         dc,
-        bps: points::bits_a_point(s.constellation),
+        bps: p.bps,
         gain,
         spread: s.spread,
     };

@@ -1,25 +1,18 @@
 // The answer's likelihoods that are not a number.
-ghost use Rattle.std.specs.Prelude.{◌≡◌, ◌+◌, ◌-◌, ◌^◌, ◌≤◌, ◌<◌, cond, length};
-ghost use Rattle.std.specs.Float.Ieee.{ne};
-ghost use Rattle.refine.specs.Refine.{spoilt_turn, spoilt_of};
+ghost use Rattle.std.specs.Prelude.{◌≡◌, ◌≤◌, length, is_nan};
+ghost use Rattle.std.specs.List.{filter};
+ghost use Rattle.refine.specs.Refine.{spoilt_of};
 
-fn count(x: f32, n: u32) -> u32
-    requires { n < 2 ^ 32 - 1 }
-    ensures { (result ≡ cond (ne x x) (n + 1) n) × (result ≤ n + 1) }
+fn count(xs: &[f32]) -> usize
+    ensures exact { result ≡ length (filter (λ x. is_nan x) xs.now) }
+    ensures few { result ≤ length xs.now }
 {
-    if x != x {
-        return n + 1;
-    }
-    n
+    xs.iter().filter(|x| x.is_nan()).count()
 }
 
 pub fn spoilt(xs: &[f32]) -> u32
     requires { length xs.now ≤ 607662 }
     ensures { result ≡ spoilt_of (length xs.now) xs.now }
 {
-    let mut n = 0;
-    for i in 0..xs.len() {
-        n = count(xs[i], n);
-    }
-    n
+    count(xs) as u32
 }

@@ -24,7 +24,7 @@ fn repeated(rec: &[u8], number: u8, answer: &[u8], page: &[u8], out: &mut [u8]) 
     requires { out.old ≡ page.now }
     ensures { result ≡ true → Right rec.now number answer.now page.now }
 {
-    if record::refine_record(rec, out) != number as u32 {
+    if cause::number(&record::refine_record(rec, out)) != number as u32 {
         return false;
     }
     holds(out, answer, page)

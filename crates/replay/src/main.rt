@@ -4,28 +4,20 @@
 #![tactic(auto)]
 
 mod entry;
-mod input;
 
 ghost use Rattle.std.specs.Prelude.{◌≡◌, true, ◌+◌, ◌*◌, ◌≤◌, ◌<◌, length, take, IfOk, IfSome};
 ghost use Rattle.std.specs.Io.KnownBytes.{Consumes};
 ghost use Rattle.replay.specs.Stored.{Holds};
 
-use crate::input::filled;
 use std::io;
 use std::io::Read;
+use stored::{Tally, filled};
 
 // Two bytes as a length.
 fn length_of(high: u8, low: u8) -> usize
     ensures { result ≡ high * 256 + low }
 {
-    high as usize * 256 + low as usize
-}
-
-// Room for a record of any length that two bytes give.
-fn record_page() -> [u8; 65536]
-    ensures { 65536 ≡ length result }
-{
-    [0; 65536]
+    usize::from(u16::from_be_bytes([high, low]))
 }
 
 // Reads n bytes to the start of the space; false where there is no room or no input for them.
@@ -45,7 +37,8 @@ fn replayed<R: Read>(from: &mut R, head: &[u8; 5]) -> io::Result<bool>
 {
     let m = length_of(head[0], head[1]);
     let k = length_of(head[2], head[3]);
-    let mut rec = record_page();
+    // Room for a record of any length that two bytes give.
+    let mut rec = [0; 65536];
     let mut answer = entry::page();
     if !read(from, m, &mut rec)? {
         return Ok(false);
@@ -54,31 +47,6 @@ fn replayed<R: Read>(from: &mut R, head: &[u8; 5]) -> io::Result<bool>
         return Ok(false);
     }
     Ok(entry::agrees(&rec[..m], head[4], &answer[..k]))
-}
-
-// What was counted so far.
-#[derive(Clone, Copy)]
-struct Tally {
-    read: u64,
-    differ: u64,
-}
-
-fn counted(t: Tally, same: bool) -> Tally
-    requires read { t.read < 100000 }
-    requires differ { t.differ < 100000 }
-    ensures read { result.read ≡ t.read + 1 }
-    ensures differ { result.differ ≤ t.differ + 1 }
-{
-    if same {
-        return Tally {
-            read: t.read + 1,
-            differ: t.differ,
-        };
-    }
-    Tally {
-        read: t.read + 1,
-        differ: t.differ + 1,
-    }
 }
 
 // Prints the place of an entry that differs.
@@ -91,7 +59,7 @@ fn report(rt: &impl Print, at: u64, same: bool) -> io::Result<()> {
 
 fn main(rt: HostRuntime) -> io::Result<()> {
     let mut input = rt.stdin();
-    let mut t = Tally { read: 0, differ: 0 };
+    let mut t = Tally::NONE;
     let mut head = [0u8; 5];
     for _ in 0usize..100_000 {
         if !filled(&mut input, &mut head)? {
@@ -99,7 +67,7 @@ fn main(rt: HostRuntime) -> io::Result<()> {
         }
         let same = replayed(&mut input, &head)?;
         report(&rt, t.read, same)?;
-        t = counted(t, same);
+        t = t.counted(same);
     }
     let Tally { read, differ } = t;
     println!(rt; "{read} records, {differ} different")

@@ -5,6 +5,7 @@ ghost use Rattle.std.specs.Prelude.{◌≡◌, take};
 ghost use Rattle.ieee.specs.Order.{is_finite};
 ghost use Rattle.scan.specs.Fine.{all, is_variance};
 
+#[tactic(auto, unfolding(crate::specs::Fine::is_variance))]
 pub fn is_variance(x: f32) -> bool
     ensures { result ≡ is_variance x }
 {
@@ -12,41 +13,24 @@ pub fn is_variance(x: f32) -> bool
     if x < 0.0 {
         return false;
     }
-    ieee::is_finite32(x)
+    ieee::is_finite(x)
 }
 
 pub fn all_finite(xs: &[f32]) -> bool
     ensures { result ≡ all is_finite xs.now }
 {
-    let mut i = 0;
-    while i < xs.len() {
-        if !ieee::is_finite32(xs[i]) {
-            return false;
-        }
-        i += 1;
-    }
-    true
+    xs.iter().all(|x| ieee::is_finite(*x))
 }
 
 pub fn all_variances(xs: &[f32]) -> bool
     ensures { result ≡ all is_variance xs.now }
 {
-    let mut i = 0;
-    while i < xs.len() {
-        if !is_variance(xs[i]) {
-            return false;
-        }
-        i += 1;
-    }
-    true
+    xs.iter().all(|x| is_variance(*x))
 }
 
 // The first n numbers, or as many as there are.
 pub fn first_finite(xs: &[f32], n: usize) -> bool
     ensures { result ≡ all is_finite (take n xs.now) }
 {
-    if n <= xs.len() {
-        return all_finite(&xs[..n]);
-    }
-    all_finite(xs)
+    xs.iter().take(n).all(|x| ieee::is_finite(*x))
 }

@@ -3,36 +3,29 @@ use Prim.Native.Nat.{ℕ, ◌^◌, ◌<◌}
 use mathlib.Core.Path.{◌≡◌, refl, sym, ap}
 use mathlib.Core.Bool.{not}
 use mathlib.Core.List.{List}
-use native.Mathlib.Omega.{arith}
 use lib.Dec.{T}
 use lib.ListN.{get_or, take}
 use lib.Seq.{get_or-take}
-use lib.Ieee.{Float, nan, lt, le, is_nan, neg, of_bits, round}
+use lib.Ieee.{Float, nan, lt, le, is_nan, of_bits, round}
 use lib.Ieee.Bits.{is_false}
 use Rattle.seq.specs.Loop.Laws.{for_same}
 use Rattle.ieee.specs.Num.{◌⊟◌, zero32}
-use Rattle.ieee.specs.Order.{max_of, clamp_of}
+use Rattle.ieee.specs.Order.{max_of}
 use Rattle.ieee.proofs.Orders.{max_laws, not_lt_le}
 use Rattle.elementary.specs.Exp.{exp_at}
 use Rattle.dsp.specs.Arithmetic.{norm_sqr}
 use Rattle.points.specs.Table.{point_at}
-use Rattle.soft.specs.Soft.{limit, prior_at, bit_of, cost_of, bit_turn, log_probability, added, point_turn, nothing, moments_of, soft_of, soft_point}
+use Rattle.soft.specs.Soft.{log_probability, added, point_turn, nothing, moments_of, soft_of, soft_point}
 use Rattle.soft.specs.Laws.{SoftLaws, Constants}
-use Rattle.soft.proofs.Prefix.{log_side}
+use Rattle.soft.proofs.Prefix.{own_logs, log_side}
 
 module _ (llr llr' pts : List Float) (bps : ℕ) (same : (b : ℕ) → b < bps → get_or llr b nan ≡ get_or llr' b nan) where
-  own_logs : (k : ℕ) → log_probability llr bps k ≡ log_probability llr' bps k
-  unfolding log_probability bit_turn prior_at
-  own_logs k =
-      for_same (bit_turn llr bps k) (bit_turn llr' bps k) 0 bps zero32
-      (λ b lp p q. ap (λ (x : Float). lp ⊟ cost_of (clamp_of x (neg limit) limit) (bit_of bps k b)) (same b (omega arith)))
-
   own : soft_point llr pts bps ≡ soft_point llr' pts bps
   unfolding soft_point moments_of point_turn
   own =
       ap soft_of
       (for_same (point_turn llr pts bps) (point_turn llr' pts bps) 0 (2 ^ bps) nothing
-      (λ k s p q. ap (λ (lp : Float). added s (point_at pts k) (exp_at lp)) (own_logs k)))
+      (λ k s p q. ap (λ (lp : Float). added s (point_at pts k) (exp_at lp)) (own_logs llr llr' bps same k)))
 
 zero_number : T (not (is_nan zero32))
 unfolding is_nan of_bits

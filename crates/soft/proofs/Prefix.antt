@@ -7,14 +7,16 @@ use native.Mathlib.Nat.{div-one, pow-suc, mul_comm}
 use native.Mathlib.Numerals.{add-one}
 use native.Mathlib.Omega.{arith}
 use lib.Dec.{T, eqb}
-use lib.ListN.{length, get_or, set, drop, get_or-append}
+use lib.ListN.{length, get_or, set, take, drop, get_or-append}
+use Rattle.std.proofs.lemmas.List.{length-take, length-take-le, get_or-take}
 use lib.Pow.{pow_mono, shr-shr}
-use lib.Ieee.{Float, nan, lt, of_bits}
+use lib.Ieee.{Float, nan, neg, lt, of_bits}
 use Rattle.seq.specs.Loop.Laws.{for_none, for_next, for_same, for_all}
 use Rattle.seq.specs.Tab.{tab}
 use Rattle.seq.specs.Tab.Laws.{length_tab, tab_step, get_d_tab}
 use Rattle.ieee.specs.Num.{◌⊟◌, zero32}
-use Rattle.soft.specs.Soft.{bit_of, cost_of, prior_at, bit_turn, log_probability}
+use Rattle.ieee.specs.Order.{clamp_of}
+use Rattle.soft.specs.Soft.{limit, bit_of, cost_of, prior_at, bit_turn, log_probability}
 use Rattle.soft.specs.Tree.{page, child, Children, Level}
 use Rattle.soft.proofs.Signs.{side, sub_side}
 use Rattle.soft.proofs.Costs.{softplus_side}
@@ -60,12 +62,15 @@ module _ (llr : List Float) where
       let e : k ≡ 0 = omega arith in
       rw e prefix_none
 
-  pub level_more : (b n : ℕ) (lam z o : Float) (l r : List Float) → n ≡ 2 ^ b → lam ≡ prior_at llr b → z ≡ cost_of lam 0 → o ≡ cost_of lam 1
-      → Level llr b l → Children l n z o r → Level llr (b + 1) r
+  -- the first n = 2 ^ b of l are split
+  pub level_more : (b n : ℕ) (lam z o : Float) (l r : List Float) → n ≡ 2 ^ b → n ≤ length l → lam ≡ prior_at llr b → z ≡ cost_of lam 0 → o ≡ cost_of lam 1
+      → Level llr b l → Children (take n l) (length (take n l)) z o r → Level llr (b + 1) r
   unfolding child
-  level_more b n lam z o l r en el ez eo before split j h =
+  level_more b n lam z o l r en within el ez eo before split j h =
       let e : 2 ^ (b + 1) ≡ 2 * 2 ^ b = rw (add-one b) (pow-suc 2 b ∙ mul_comm (2 ^ b) 2) in
-      split j (omega arith) ∙ rw (before (j / 2) (omega arith), ez, eo, picked lam (j % 2) (omega arith), el) (prefix_more b j)
+      let all : length (take n l) ≡ n = length-take-le n l within in
+      split j (omega arith)
+      ∙ rw (get_or-take n l (j / 2) nan (omega arith), before (j / 2) (omega arith), ez, eo, picked lam (j % 2) (omega arith), el) (prefix_more b j)
 
   -- ---- not above zero
 
@@ -75,6 +80,23 @@ module _ (llr : List Float) where
       for_all (λ (lp : Float). T (side true lp)) (bit_turn llr bps k) 0 bps zero32
       (λ i lp p q h. sub_side lp (cost_of (prior_at llr i) (bit_of bps k i)) h (softplus_side _))
       tt
+
+-- ---- of the first bps numbers alone
+
+pub own_logs : (llr llr' : List Float) (bps : ℕ) → ((b : ℕ) → b < bps → get_or llr b nan ≡ get_or llr' b nan) → (k : ℕ) → log_probability llr bps k ≡ log_probability llr' bps k
+unfolding log_probability bit_turn prior_at
+own_logs llr llr' bps same k =
+    for_same (bit_turn llr bps k) (bit_turn llr' bps k) 0 bps zero32
+    (λ b lp p q. ap (λ (x : Float). lp ⊟ cost_of (clamp_of x (neg limit) limit) (bit_of bps k b)) (same b (omega arith)))
+
+-- the logarithms of the first bps likelihoods, at the first n = 2 ^ bps labels
+pub log_read : (llr lp : List Float) (bps n k : ℕ) → bps ≤ length llr → n ≡ 2 ^ bps → k < length (take n lp) → Level (take bps llr) (length (take bps llr)) lp → get_or (take n lp) k nan ≡ log_probability llr bps k
+log_read llr lp bps n k within e h level =
+    let all : length (take bps llr) ≡ bps = length-take-le bps llr within in
+    let below : k < n = omega (arith, length-take n lp) in
+    get_or-take n lp k nan below
+    ∙ (rw all at level) k (omega arith)
+    ∙ own_logs (take bps llr) llr bps (λ b h. get_or-take bps llr b nan h) k
 
 -- ---- a level is written by twos
 

@@ -3,6 +3,7 @@ ghost use Rattle.soft.specs.Soft.{added, soft_point, loud_of};
 
 use crate::labels::log_probabilities;
 use dsp::Complex;
+use points::Points;
 
 // The expected value of a point and of its power, so far.
 #[derive(Clone, Copy)]
@@ -11,13 +12,14 @@ struct Moments {
     e2: f32,
 }
 
-fn add(s: Moments, x: Complex, p: f32) -> Moments
-    ensures { result ≡ added s x p }
-{
-    let mu = s.mu;
-    Moments {
-        mu: mu.add(x.scale(p)),
-        e2: s.e2 + p * x.norm_sqr(),
+impl Moments {
+    fn with(self, x: Complex, p: f32) -> Moments
+        ensures { result ≡ added self x p }
+    {
+        Moments {
+            mu: self.mu.add(x.scale(p)),
+            e2: self.e2 + p * x.norm_sqr(),
+        }
     }
 }
 
@@ -28,23 +30,21 @@ pub struct Soft {
 }
 
 // The mean and the variance of a point whose label bits, the first one first, have the likelihoods llr.
-pub fn soft_point(llr: &[f32], pts: &[f32; 128], bps: usize) -> Soft
-    requires { (bps ≤ 6) × (bps ≤ length llr.now) }
-    ensures { result ≡ soft_point llr.now pts.now bps }
+pub fn soft_point(llr: &[f32], pts: &Points) -> Soft
+    requires { pts.now.bps ≤ length llr.now }
+    ensures { result ≡ soft_point llr.now pts.now.pts pts.now.bps }
 {
-    let lp = log_probabilities(llr, bps);
-    let n = points::count(bps);
+    let lp = log_probabilities(&llr[..pts.bps]);
     let mut s = Moments {
         mu: Complex::ZERO,
         e2: 0.0,
     };
-    for k in 0..n {
-        s = add(s, points::point(pts, k), elementary::exp(lp[k]));
+    for (k, &l) in lp[..pts.count()].iter().enumerate() {
+        s = s.with(pts.point(k), elementary::exp(l));
     }
-    let mean = s.mu;
     Soft {
-        mean,
-        var: ieee::max32(s.e2 - mean.norm_sqr(), 0.0),
+        mean: s.mu,
+        var: ieee::max(s.e2 - s.mu.norm_sqr(), 0.0),
     }
 }
 

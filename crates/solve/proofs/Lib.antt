@@ -1,4 +1,4 @@
-pub mod Turns
-pub mod Rows
+pub mod Loops
+pub mod Unseen
 pub mod Constants
 pub mod Lengths

@@ -2,8 +2,8 @@
 #![tactic(auto)]
 
 mod factor;
-mod fours;
 mod matrix;
+mod rows;
 mod substitute;
 
 ghost use Rattle.std.specs.Prelude.{◌≡◌, ◌≤◌};
@@ -14,6 +14,7 @@ pub use matrix::{get, put};
 use substitute::{backward, forward};
 
 // Solves A w = b for a symmetric positive definite A of k rows, whose lower triangle becomes its factor.
+#[tactic(auto, unfolding(crate::specs::Solve::solve_spd))]
 pub fn solve_spd(a: &mut [f64; 1600], b: &[f64; 40], k: usize) -> [f64; 40]
     requires { k ≤ 40 }
     ensures { (a.new ≡ factor k a.old) × (result ≡ solve_spd k a.old b.now) }

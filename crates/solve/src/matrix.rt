@@ -1,4 +1,5 @@
-// A 40 x 40 matrix, row by row in one array.
+// A 40 x 40 matrix, row by row in one array: the definitions read it as one list of numbers, and an array of rows would
+// only spell i * 40 + j otherwise.
 ghost use Rattle.std.specs.Prelude.{◌≡◌, ◌<◌};
 ghost use Rattle.solve.specs.Solve.{at2, put2};
 

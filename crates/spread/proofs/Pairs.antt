@@ -11,7 +11,7 @@ use Rattle.seq.specs.Cat.{cat}
 use Rattle.seq.specs.Cat.Laws.{cat-none, cat_more, length_cat, get_d_cat}
 use Rattle.dsp.specs.declared.Complex.{Complex}
 use Rattle.dsp.specs.Arithmetic.{complex}
-use Rattle.spread.specs.Flat.{complex_at, flat}
+use Rattle.dsp.specs.Flat.{complex_at, flat}
 
 -- z 0, .., z (k - 1)
 abbrev pub pairs : (ℕ → Complex) → ℕ → List Float

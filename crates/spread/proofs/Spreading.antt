@@ -10,13 +10,12 @@ use lib.Seq.{drop_at}
 use lib.Ieee.{Float, nan}
 use Rattle.seq.specs.Loop.{for}
 use Rattle.seq.specs.Loop.Laws.{for_none, for_next, for_same}
-use Rattle.seq.specs.Tab.{tab}
-use Rattle.seq.specs.Tab.Laws.{length_tab, get_d_tab}
+use Rattle.std.proofs.Common.{take, length-take-le, get_or-take}
 use Rattle.seq.specs.Cat.Laws.{cat-same}
 use Rattle.ieee.specs.Num.{zero32}
 use Rattle.dsp.specs.declared.Complex.{Complex}
 use Rattle.dsp.specs.Arithmetic.{complex, zeroᶜ, scaleᶜ, ◌+ᶜ◌, ◌*ᶜ◌}
-use Rattle.spread.specs.Flat.{complex_at, flat}
+use Rattle.dsp.specs.Flat.{complex_at, flat}
 use Rattle.spread.specs.Spreader.{twiddle, twiddles_of, factor, next, unitary, Sum, start, turn, sum_of, output, transform, forward_of, inverse_of, Indexed}
 use Rattle.spread.proofs.Pairs.{pairs, length_pairs, pair_at}
 
@@ -40,13 +39,11 @@ pub next_lt : (m k idx : ℕ) → idx < m → k < m → next m k idx < m
 next_lt m k idx h h' = rw (next_is m k idx h h') (mod-lt (idx + k) (omega arith))
 
 -- a copy of the first m complex numbers has them
-pub copied : (m : ℕ) (a l : List Float) (j : ℕ) → j < m → complex_at (tab (2 * m) (λ i. get_or a i nan) ++ l) j ≡ complex_at a j
-copied m a l j h = ap₂ complex (part (2 * j) (omega arith)) (part (2 * j + 1) (omega arith))
+pub copied : (m : ℕ) (a l : List Float) (j : ℕ) → 2 * m ≤ length a → j < m → complex_at (take (2 * m) a ++ l) j ≡ complex_at a j
+copied m a l j long h = ap₂ complex (part (2 * j) (omega arith)) (part (2 * j + 1) (omega arith))
   where
-    part : (i : ℕ) → i < 2 * m → get_or (tab (2 * m) (λ x. get_or a x nan) ++ l) i nan ≡ get_or a i nan
-    part i h =
-        let f : ℕ → Float = λ x. get_or a x nan in
-        get_or-append (tab (2 * m) f) l nan i (omega (arith, length_tab f (2 * m))) ∙ get_d_tab f (2 * m) i nan h
+    part : (i : ℕ) → i < 2 * m → get_or (take (2 * m) a ++ l) i nan ≡ get_or a i nan
+    part i h = get_or-append (take (2 * m) a) l nan i (omega (arith, length-take-le (2 * m) a long)) ∙ get_or-take (2 * m) a i nan h
 
 module _ (m : ℕ) (tw : List Float) (inverse : Bool) (a : List Float) where
   abbrev after : ℕ → ℕ → Sum
@@ -104,8 +101,8 @@ module _ (m : ℕ) (tw : List Float) (inverse : Bool) (a : List Float) where
       (for_same (turn m tw inverse a k) (turn m tw inverse b k) 0 m start (λ j s u v. rw (same j (omega arith)))))
 
   -- so a copy of these does
-  pub transform_copy : (l : List Float) → transform m tw inverse (tab (2 * m) (λ i. get_or a i nan) ++ l) ≡ transform m tw inverse a
-  transform_copy l = sym (transform_reads (tab (2 * m) (λ i. get_or a i nan) ++ l) (λ j h. sym (copied m a l j h)))
+  pub transform_copy : (l : List Float) → 2 * m ≤ length a → transform m tw inverse (take (2 * m) a ++ l) ≡ transform m tw inverse a
+  transform_copy l long = sym (transform_reads (take (2 * m) a ++ l) (λ j h. sym (copied m a l j long h)))
 
 pub length_forward : (m : ℕ) (tw v : List Float) → length (forward_of m tw v) ≡ 2 * m
 unfolding forward_of

@@ -1,14 +1,2 @@
--- A list of complex numbers as a flat list of floats: re, im, re, im, ..
-use Rattle.std.specs.Prelude.{ℕ, ◌+◌, ◌*◌, List, [], ◌∷◌, slice_index_or}
-use Rattle.std.specs.Prelude.{Float}
-use Rattle.std.specs.Float.{nan}
-use Rattle.dsp.specs.declared.Complex.{Complex}
-use Rattle.dsp.specs.Arithmetic.{complex}
-
--- complex number k of the list
-abbrev pub complex_at : List Float → ℕ → Complex
-complex_at xs k = complex (slice_index_or xs (2 * k) nan) (slice_index_or xs (2 * k + 1) nan)
-
--- the stretch of one
-abbrev pub flat : Complex → List Float
-flat z = z.re ∷ z.im ∷ []
+-- The definitions of dsp's `Flat`, for crates that know them by this name.
+pub use Rattle.dsp.specs.Flat.{complex_at, flat}

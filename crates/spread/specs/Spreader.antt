@@ -11,7 +11,7 @@ use Rattle.ieee.specs.Root.{rooted}
 use Rattle.elementary.specs.Circular.{sin_at, cos_at}
 use Rattle.dsp.specs.declared.Complex.{Complex}
 use Rattle.dsp.specs.Arithmetic.{complex, zeroᶜ, conjᶜ, scaleᶜ, ◌+ᶜ◌, ◌*ᶜ◌}
-use Rattle.spread.specs.Flat.{complex_at, flat}
+use Rattle.dsp.specs.Flat.{complex_at, flat}
 
 -- ---- new
 

@@ -1,16 +1,12 @@
 // `Spreader::new`: the twiddle factors.
-ghost use Rattle.std.specs.Prelude.{◌≡◌, ◌*◌, ◌<◌, ◌≤◌, ◌++◌, length, drop};
-ghost use Rattle.seq.specs.Cat.{cat};
-ghost use Rattle.spread.specs.Flat.{flat};
+ghost use Rattle.std.specs.Prelude.{◌≡◌, ◌<◌, ◌≤◌};
 ghost use Rattle.spread.specs.Spreader.{angle, twiddle, twiddles_of};
 
-use crate::flat::{put, zeros};
 use dsp::Complex;
-
-// core::f64::consts::TAU
-const TAU: f64 = 6.283185307179586;
+use std::f64::consts::TAU;
 
 // -2πk/m
+#[tactic(auto, unfolding(crate::specs::Spreader::angle))]
 fn angle(m: usize, k: usize) -> f64
     requires { (k < m) × (m ≤ 109) }
     ensures { result ≡ angle m k }
@@ -19,6 +15,7 @@ fn angle(m: usize, k: usize) -> f64
 }
 
 // e^{-j2πk/m}
+#[tactic(auto, unfolding(crate::specs::Spreader::twiddle))]
 fn twiddle(m: usize, k: usize) -> Complex
     requires { (k < m) × (m ≤ 109) }
     ensures { result ≡ twiddle m k }
@@ -30,24 +27,14 @@ fn twiddle(m: usize, k: usize) -> Complex
     )
 }
 
-// All m of them, to the front of tw.
-fn fill(tw: &mut [f32], m: usize)
-    requires { (m ≤ 109) × (2 * m ≤ length tw.old) }
-    ensures { tw.new ≡ cat m (λ k. flat (twiddle m k)) ++ drop (2 * m) tw.old }
-{
-    let mut k = 0;
-    while k < m {
-        put(tw, k, twiddle(m, k));
-        k += 1;
-    }
-}
-
-// The twiddle factors of m numbers, and zeros past them.
+// All m of them, and zeros past them.
 pub fn twiddles(m: usize) -> [f32; 218]
-    requires { (1 ≤ m) × (m ≤ 109) }
+    requires { m ≤ 109 }
     ensures { result ≡ twiddles_of m }
 {
-    let mut tw = zeros();
-    fill(&mut tw, m);
+    let mut tw = [0.0f32; 218];
+    for k in 0..m {
+        twiddle(m, k).put(&mut tw, k);
+    }
     tw
 }

@@ -1,6 +1,5 @@
 -- Laws of the definitions, for the proofs here and in the crates above.
 pub mod Bounded
-pub mod Room
 pub mod Passing
 pub mod Exact
 pub mod Accepting

@@ -10,7 +10,7 @@ use lib.ListN.{length}
 use lib.Ieee.{Float}
 use Rattle.refine.specs.Refine.{Burst, Fit}
 use Rattle.refine.specs.declared.settings.Settings.{Settings}
-use Rattle.table.specs.declared.causes.Lent.{Lent}
+use Rattle.table.specs.declared.sizes.Lent.{Lent}
 use Rattle.table.specs.Sizes.{Counted, nc_of, grid_cells, ncell_of, nbits_of, work_length}
 use Rattle.table.specs.Rows.{bad_codes, bad_symbols, bad_grid, bad_variances, room_for}
 use Rattle.table.specs.Table.{rows}

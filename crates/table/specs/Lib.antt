@@ -1,4 +1,3 @@
-pub mod Causes
 pub mod Sizes
 pub mod Rows
 pub mod Refusals

@@ -1,7 +1,7 @@
 -- Document 01's table of causes, for a burst: the number of the first row that turns it away, or 0.
 use Rattle.std.specs.Prelude.{ℕ, Bool, not, cond, List, length, Float}
 use Rattle.refine.specs.Refine.{Burst}
-use Rattle.table.specs.declared.causes.Lent.{Lent}
+use Rattle.table.specs.declared.sizes.Lent.{Lent}
 use Rattle.table.specs.Rows.{bad_layout, bad_codes, bad_symbols, bad_grid, bad_variances, bad_numbers, room_for}
 
 -- `room` says whether the lists that are lent to be written are long enough: how long differs between the entries

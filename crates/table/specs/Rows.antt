@@ -6,7 +6,7 @@ use Rattle.ieee.specs.Num.{zero32}
 use Rattle.ieee.specs.Order.{is_finite}
 use Rattle.scan.specs.Fine.{all, is_variance}
 use Rattle.refine.specs.declared.settings.Settings.{Settings}
-use Rattle.table.specs.declared.causes.Lent.{Lent}
+use Rattle.table.specs.declared.sizes.Lent.{Lent}
 use Rattle.table.specs.Sizes.{nc_of, grid_cells, ncell_of, nbits_of, work_length}
 
 -- ---- which of the settings' numbers are fine

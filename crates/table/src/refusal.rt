@@ -1,46 +1,42 @@
 // The table of causes, from the top.
 ghost use Rattle.std.specs.Prelude.{◌≡◌};
-ghost use Rattle.refine.specs.Refine.{burst};
-ghost use Rattle.table.specs.Causes.{verdict_number};
+ghost use Rattle.cause.specs.Causes.{number_of};
+ghost use Rattle.refine.specs.Received.{burst_of};
 ghost use Rattle.table.specs.Rows.{room_for};
 ghost use Rattle.table.specs.Refusals.{refusal_of};
 
-use crate::causes::{Cause, Lent, Verdict};
 use crate::rows::{
     bad_codes, bad_grid, bad_layout, bad_numbers, bad_symbols, bad_variances, room_for,
 };
-use refine::Settings;
+use crate::sizes::Lent;
+use cause::Cause;
+use refine::BurstGrid;
 
-pub fn verdict(
-    s: Settings,
-    grid: &[f32],
-    sigma: &[f32],
-    cells: &[f32],
-    prior: &[f32],
-    lent: Lent,
-) -> Verdict
-    ensures { verdict_number result ≡ refusal_of (burst s grid.now sigma.now cells.now) prior.now (room_for s lent) }
+#[tactic(auto, using(crate::proofs::Passing::counted), unfolding(crate::specs::Refusals::refusal_of))]
+pub fn verdict(b: &BurstGrid, prior: &[f32], lent: Lent) -> Result<(), Cause>
+    ensures { number_of result ≡ refusal_of (burst_of b.now) prior.now (room_for b.now.settings lent) }
 {
+    let s = b.settings;
     if bad_layout(s) {
-        return Verdict::Failed(Cause::Layout);
+        return Err(Cause::Layout);
     }
     if bad_codes(s) {
-        return Verdict::Failed(Cause::Codes);
+        return Err(Cause::Codes);
     }
     if bad_symbols(s) {
-        return Verdict::Failed(Cause::Symbols);
+        return Err(Cause::Symbols);
     }
-    if bad_grid(s, grid) {
-        return Verdict::Failed(Cause::Grid);
+    if bad_grid(b) {
+        return Err(Cause::Grid);
     }
-    if bad_variances(s, sigma, cells) {
-        return Verdict::Failed(Cause::Variances);
+    if bad_variances(b) {
+        return Err(Cause::Lengths);
     }
     if !room_for(s, lent) {
-        return Verdict::Failed(Cause::Room);
+        return Err(Cause::Room);
     }
-    if bad_numbers(s, grid, sigma, cells, prior) {
-        return Verdict::Failed(Cause::Numbers);
+    if bad_numbers(b, prior) {
+        return Err(Cause::Numbers);
     }
-    Verdict::Passed
+    Ok(())
 }

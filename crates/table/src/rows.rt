@@ -3,52 +3,48 @@ ghost use Rattle.std.specs.Prelude.{◌≡◌};
 ghost use Rattle.table.specs.Sizes.{Counted};
 ghost use Rattle.table.specs.Rows.{is_level, is_power, bad_layout, bad_codes, bad_symbols, bad_grid, bad_variances, bad_settings, bad_numbers, room_for};
 
-use crate::causes::Lent;
-use crate::sizes::{grid_cells, nbits, nc, ncell};
-use refine::Settings;
+use crate::sizes::{Lent, grid_cells, nbits, nc, ncell};
+use refine::{BurstGrid, Settings};
 use scan::{all_finite, all_variances, first_finite};
 
-pub(crate) fn bad_layout(s: Settings) -> bool
+#[tactic(auto, unfolding(crate::specs::Rows::bad_layout))]
+pub fn bad_layout(s: Settings) -> bool
     ensures { result ≡ bad_layout s }
 {
     s.layout > 8
 }
 
-pub(crate) fn bad_codes(s: Settings) -> bool
+#[tactic(auto, unfolding(crate::specs::Rows::bad_codes))]
+pub fn bad_codes(s: Settings) -> bool
     ensures { result ≡ bad_codes s }
 {
-    if s.constellation > 3 {
-        return true;
-    }
-    s.gain_code > 3
+    s.constellation > 3 || s.gain_code > 3
 }
 
-pub(crate) fn bad_symbols(s: Settings) -> bool
+#[tactic(auto, unfolding(crate::specs::Rows::bad_symbols))]
+pub fn bad_symbols(s: Settings) -> bool
     ensures { result ≡ bad_symbols s }
 {
-    if s.nsym == 0 {
-        return true;
-    }
-    s.nsym > 1023
+    s.nsym == 0 || s.nsym > 1023
 }
 
-pub(crate) fn bad_grid(s: Settings, grid: &[f32]) -> bool
-    requires { Counted s }
-    ensures { result ≡ bad_grid s grid.now }
+#[tactic(auto, using(crate::proofs::Bounded::small), unfolding(crate::specs::Rows::bad_grid))]
+pub(crate) fn bad_grid(b: &BurstGrid) -> bool
+    requires { Counted b.now.settings }
+    ensures { result ≡ bad_grid b.now.settings b.now.grid.now }
 {
-    grid.len() != 2 * grid_cells(s)
+    b.grid.len() != 2 * grid_cells(b.settings)
 }
 
-pub(crate) fn bad_variances(s: Settings, sigma: &[f32], cells: &[f32]) -> bool
-    requires { Counted s }
-    ensures { result ≡ bad_variances s sigma.now cells.now }
+#[tactic(auto, unfolding(crate::specs::Rows::bad_variances))]
+pub(crate) fn bad_variances(b: &BurstGrid) -> bool
+    requires { Counted b.now.settings }
+    ensures { result ≡ bad_variances b.now.settings b.now.sigma.now b.now.cells.now }
 {
-    if sigma.len() != nc(s) {
-        return true;
-    }
-    cells.len() != ncell(s)
+    b.sigma.len() != nc(b.settings) || b.cells.len() != ncell(b.settings)
 }
 
+#[tactic(auto, using(crate::proofs::Bounded::small), unfolding(crate::specs::Rows::room_for))]
 pub(crate) fn room_for(s: Settings, lent: Lent) -> bool
     requires { Counted s }
     ensures { result ≡ room_for s lent }
@@ -56,70 +52,39 @@ pub(crate) fn room_for(s: Settings, lent: Lent) -> bool
     let bits = nbits(s);
     let cells = ncell(s);
     let work = bits + 12 * grid_cells(s);
-    if lent.answer < bits {
-        return false;
-    }
-    if lent.channel < 3 * cells {
-        return false;
-    }
-    if lent.wf < work {
-        return false;
-    }
-    lent.wu >= work
+    lent.answer >= bits && lent.channel >= 3 * cells && lent.wf >= work && lent.wu >= work
 }
 
+#[tactic(auto, unfolding(crate::specs::Rows::is_level))]
 fn is_level(x: f32) -> bool
     ensures { result ≡ is_level x }
 {
-    if x >= 0.125 {
-        return x <= 8.0;
-    }
-    false
+    x >= 0.125 && x <= 8.0
 }
 
+#[tactic(auto, unfolding(crate::specs::Rows::is_power))]
 fn is_power(x: f32) -> bool
     ensures { result ≡ is_power x }
 {
-    if x > 0.0 {
-        return ieee::is_finite32(x);
-    }
-    false
+    x > 0.0 && ieee::is_finite(x)
 }
 
+#[tactic(auto, unfolding(crate::specs::Rows::bad_settings))]
 fn bad_settings(s: Settings) -> bool
     ensures { result ≡ bad_settings s }
 {
-    if !is_level(s.boost) {
-        return true;
-    }
-    if !is_level(s.pilot_gain) {
-        return true;
-    }
-    !is_power(s.p_h)
+    !is_level(s.boost) || !is_level(s.pilot_gain) || !is_power(s.p_h)
 }
 
-pub(crate) fn bad_numbers(
-    s: Settings,
-    grid: &[f32],
-    sigma: &[f32],
-    cells: &[f32],
-    prior: &[f32],
-) -> bool
-    requires { Counted s }
-    ensures { result ≡ bad_numbers s grid.now sigma.now cells.now prior.now }
+#[tactic(auto, unfolding(crate::specs::Rows::bad_numbers))]
+pub(crate) fn bad_numbers(b: &BurstGrid, prior: &[f32]) -> bool
+    requires { Counted b.now.settings }
+    ensures { result ≡ bad_numbers b.now.settings b.now.grid.now b.now.sigma.now b.now.cells.now prior.now }
 {
-    if !all_finite(grid) {
-        return true;
-    }
-    if !all_variances(sigma) {
-        return true;
-    }
-    if !all_variances(cells) {
-        return true;
-    }
-    let n = nbits(s);
-    if !first_finite(prior, n) {
-        return true;
-    }
-    bad_settings(s)
+    let s = b.settings;
+    !all_finite(b.grid)
+        || !all_variances(b.sigma)
+        || !all_variances(b.cells)
+        || !first_finite(prior, nbits(s))
+        || bad_settings(s)
 }

@@ -4,6 +4,15 @@ ghost use Rattle.table.specs.Sizes.{Counted, nc_of, grid_cells, ncell_of, nbits_
 
 use refine::Settings;
 
+// How many numbers the lists have that are lent to be written: answer, channel list, both lists of the work area.
+#[derive(Clone, Copy)]
+pub struct Lent {
+    pub answer: usize,
+    pub channel: usize,
+    pub wf: usize,
+    pub wu: usize,
+}
+
 // Cells of the grid: ng × nc.
 pub(crate) fn grid_cells(s: Settings) -> usize
     requires { Counted s }

@@ -1,15 +1,16 @@
 // What the functions here answer, by the code that the list gives them. A number travels as its bits.
+// The codes stay numbers: the list has them so, and an enum of them would be a second table beside this one.
 
 fn word(b: u64) -> u32 {
     (b % 0x1_0000_0000) as u32
 }
 
 fn f32_of(b: u64) -> f32 {
-    ieee::of_bits32(word(b))
+    std::num::f32_from_bits_with_nan(word(b))
 }
 
 fn bits32(x: f32) -> u64 {
-    ieee::to_bits32(x) as u64
+    std::num::f32_to_bits_with_nan(x) as u64
 }
 
 fn of_numbers(code: u64, a: u64, b: u64) -> u64 {
@@ -19,19 +20,22 @@ fn of_numbers(code: u64, a: u64, b: u64) -> u64 {
         0x02 => bits32(probes::probe_sqrt32(x)),
         0x04 => bits32(probes::probe_max32(x, y)),
         0x10 => bits32(probes::probe_clamp32(x, -y, y)),
-        _ => { if probes::probe_is_finite32(x) { 1 } else { 0 } }
+        _ => u64::from(probes::probe_is_finite32(x)),
     }
 }
 
 fn of_wide_numbers(code: u64, a: u64, b: u64) -> u64 {
-    let x = ieee::of_bits64(a);
+    let x = std::num::f64_from_bits_with_nan(a);
     match code {
         0x01 => bits32(probes::probe_narrow(x)),
-        0x03 => ieee::to_bits64(probes::probe_sqrt64(x)),
-        0x05 => ieee::to_bits64(probes::probe_max64(x, ieee::of_bits64(b))),
-        0x09 => ieee::to_bits64(probes::probe_sin(x)),
-        0x0a => ieee::to_bits64(probes::probe_cos(x)),
-        _ => ieee::to_bits64(probes::probe_abs64(x)),
+        0x03 => std::num::f64_to_bits_with_nan(probes::probe_sqrt64(x)),
+        0x05 => std::num::f64_to_bits_with_nan(probes::probe_max64(
+            x,
+            std::num::f64_from_bits_with_nan(b),
+        )),
+        0x09 => std::num::f64_to_bits_with_nan(probes::probe_sin(x)),
+        0x0a => std::num::f64_to_bits_with_nan(probes::probe_cos(x)),
+        _ => std::num::f64_to_bits_with_nan(probes::probe_abs64(x)),
     }
 }
 

@@ -1,5 +1,5 @@
 // One stored answer: 'CC AAAAAAAAAAAAAAAA BBBBBBBBBBBBBBBB RRRRRRRRRRRRRRRR' and a line's end.
-ghost use Rattle.std.specs.Prelude.{◌≤◌, ◌<◌};
+ghost use Rattle.std.specs.Prelude.{◌<◌};
 
 use crate::answers::answer;
 
@@ -8,26 +8,22 @@ fn digit(b: u8) -> u64
     ensures { result < 16 }
 {
     match b {
-        b'0'..=b'9' => (b - b'0') as u64,
-        b'A'..=b'F' => (b - b'A') as u64 + 10,
+        b'0'..=b'9' => u64::from(b - b'0'),
+        b'A'..=b'F' => u64::from(b - b'A') + 10,
         _ => 0,
     }
 }
 
-// The number that the hexadecimal digits from..to make.
-fn number(text: &[u8; 54], from: usize, to: usize) -> u64
-    requires { to ≤ 54 }
-{
-    let mut n: u64 = 0;
-    for i in from..to {
-        n = n % 0x1000_0000_0000_0000 * 16 + digit(text[i]);
-    }
-    n
+// The number that hexadecimal digits make.
+fn number(digits: &[u8]) -> u64 {
+    digits
+        .iter()
+        .fold(0, |n, d| n % 0x1000_0000_0000_0000 * 16 + digit(*d))
 }
 
 pub fn agrees(text: &[u8; 54]) -> bool {
-    let code = number(text, 0, 2);
-    let a = number(text, 3, 19);
-    let b = number(text, 20, 36);
-    answer(code, a, b) == number(text, 37, 53)
+    let code = number(&text[..2]);
+    let a = number(&text[3..19]);
+    let b = number(&text[20..36]);
+    answer(code, a, b) == number(&text[37..53])
 }

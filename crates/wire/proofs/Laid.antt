@@ -1,6 +1,6 @@
 -- Numbers laid out in bytes, and read again. Assumes nothing.
 use Prim.Native.Nat.{ℕ, zero, suc, ◌+◌, ◌*◌, ◌/◌, ◌^◌, ◌<◌}
-use mathlib.Core.Path.{◌≡◌, sym, ap, ap₂, ◌∙◌}
+use mathlib.Core.Path.{◌≡◌, refl, sym, ap, ap₂, ◌∙◌}
 use mathlib.Core.Bool.{Bool}
 use mathlib.Core.List.{List, [], ◌∷◌, ◌++◌}
 use native.Mathlib.Omega.{arith}
@@ -17,6 +17,8 @@ use Rattle.seq.specs.Tab.Laws.{tab_only}
 use Rattle.scan.specs.Fine.{all}
 use Rattle.words.specs.Bytes.{word_at, word, number}
 use Rattle.words.proofs.Stored.{length_word}
+use Rattle.refine.specs.declared.whole.Refined.{Refined}
+use Rattle.wire.specs.Bytes.{report_bytes}
 use Rattle.wire.specs.Layout.{numbers_laid}
 use Rattle.wire.specs.Record.{number_at}
 use Rattle.wire.proofs.Digits.{four_bytes}
@@ -98,3 +100,8 @@ part_back rec before part after a n h la ln =
     ∙ ap (λ (k : ℕ). get_or (before ++ (part ++ after)) k nan) e
     ∙ get_or-append-add before (part ++ after) i nan
     ∙ get_or-append part after nan i (omega arith))))
+
+-- how long a report is
+pub length_report : (r : Refined) → length (report_bytes r) ≡ 10
+unfolding report_bytes word
+length_report r = refl

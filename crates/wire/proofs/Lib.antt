@@ -5,4 +5,3 @@ pub mod Shaped
 pub mod Digits
 pub mod Laid
 pub mod RoundTrip
-pub mod Stored

@@ -7,27 +7,29 @@ use Rattle.table.specs.Sizes.{Counted, nc_of, ncell_of, grid_cells, nbits_of}
 use Rattle.table.proofs.Bounded.{small}
 use Rattle.wire.specs.declared.fields.Fields.{Fields}
 use Rattle.wire.specs.declared.shape.Sizes.{Sizes}
-use Rattle.wire.specs.Record.{fields_of, fields, settings, settings_of, count_of}
+use Rattle.wire.specs.Record.{head, fields_of, fields, settings, settings_of, count_of}
 use Rattle.wire.specs.Sizes.{plain, sizes_of}
 use Rattle.layout.proofs.Bounds.{bounds}
 
 -- the prior count has 20 bits
-pub few_priors : (h : ℕ) → (fields_of h).priors < 2 ^ 20
+few_priors : (h : ℕ) → (fields_of h).priors < 2 ^ 20
 unfolding fields_of
 few_priors h = omega arith
 
--- every sum of them fits
-pub record Small (z : Sizes) : Type 0 where
+-- so that every sum of what the fields give fits
+pub record Few (f : Fields) (z : Sizes) : Type 0 where
   pub carriers : z.nc ≤ 109
   pub cells : z.ncell ≤ 101277
   pub grid : z.grid ≤ 118156
+  pub priors : f.priors < 2 ^ 20
 
-pub small_sizes : (f : Fields) → Counted (plain f) → Small (sizes_of f)
+pub few : (rec : List ℕ) (f : Fields) (z : Sizes) → f ≡ fields rec → Counted (plain f) → z ≡ sizes_of f → Few f z
 unfolding sizes_of
-small_sizes f n = record {
-  carriers = (bounds.layout (plain f).layout (plain f).sparse).nc_high;
-  cells = (small (plain f) n).cells;
-  grid = (small (plain f) n).grid;
+few rec f z e n h = record {
+  carriers = rw h (bounds.layout (plain f).layout (plain f).sparse).nc_high;
+  cells = rw h (small (plain f) n).cells;
+  grid = rw h (small (plain f) n).grid;
+  priors = rw e (few_priors (head rec));
 }
 
 module _ (rec : List ℕ) where

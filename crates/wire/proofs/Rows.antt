@@ -1,41 +1,55 @@
 -- The rows of a record's shape, as its fields give them. Assumes nothing.
-use Prim.Native.Nat.{ℕ}
-use mathlib.Core.Path.{◌≡◌, refl}
-use mathlib.Core.Bool.{Bool, cond}
-use mathlib.Core.List.{List}
-use lib.Dec.{ltb}
+use Rattle.std.proofs.Common.{◌≡◌, ℕ, ◌≤◌, false, List, length, sym, refl, ◌∙◌, arith}
+use Rattle.std.specs.Prelude.{Result, Ok, Err, IfOk, Option, Some, None, Bool, true, cond, eqb}
+use Rattle.std.specs.Option.{option_map, unwrap_or}
+use Rattle.std.specs.Result.{result_ok}
 use borrow.Author.Tests.{eq-eqb, ne_eqb}
+use Rattle.cause.specs.declared.Cause.{Cause}
+use Rattle.cause.specs.Causes.{cause_number, number_of}
+use Rattle.refine.specs.Refine.{nbits}
 use Rattle.table.specs.Rows.{bad_layout, bad_codes, bad_symbols}
-use Rattle.wire.specs.declared.fields.Fields.{Fields}
+use Rattle.table.proofs.Passing.{counted}
+use Rattle.wire.specs.declared.shape.Sizes.{Sizes}
 use Rattle.wire.specs.Record.{fields, settings, settings_of, burst_of}
 use Rattle.wire.specs.Sizes.{plain, sizes_of}
-use Rattle.wire.specs.Shape.{bad_record, bad_length, shape_refusal, bits_of}
+use Rattle.wire.specs.Shape.{bad_record, shape_refusal, bits_of, bits_in}
+use Rattle.wire.proofs.Shaped.{whole_record}
+
+-- no cause has the number of an answer
+pub some_number : (c : Cause) → cause_number c ≡ 0 → ⊥
+some_number c e = grind (arith, cause_number)
 
 module _ (rec : List ℕ) where
-  -- the table, by what its tests say
-  pub table : (a b c d e : Bool) → bad_record rec ≡ a → bad_layout (settings rec) ≡ b → bad_codes (settings rec) ≡ c → bad_symbols (settings rec) ≡ d → bad_length rec ≡ e
-      → cond a 12 (cond b 1 (cond c 2 (cond d 3 (cond e 12 0)))) ≡ shape_refusal rec
-  unfolding shape_refusal
-  table a b c d e p q r s t = rw (p, q, r, s, t) refl
-
   -- rows 1 to 3 read fields only
-  module _ (f : Fields) (e : f ≡ fields rec) where
-    pub layout_row : bad_layout (settings rec) ≡ ltb 8 f.layout
-    unfolding bad_layout settings settings_of
-    layout_row = rw e refl
+  pub layout_row : bad_layout (settings rec) ≡ bad_layout (plain (fields rec))
+  unfolding bad_layout settings settings_of
+  layout_row = refl
 
-    pub codes_row : bad_codes (settings rec) ≡ bad_codes (plain f)
-    unfolding bad_codes settings settings_of
-    codes_row = rw e refl
+  pub codes_row : bad_codes (settings rec) ≡ bad_codes (plain (fields rec))
+  unfolding bad_codes settings settings_of
+  codes_row = refl
 
-    pub symbols_row : bad_symbols (settings rec) ≡ bad_symbols (plain f)
-    unfolding bad_symbols settings settings_of
-    symbols_row = rw e refl
+  pub symbols_row : bad_symbols (settings rec) ≡ bad_symbols (plain (fields rec))
+  unfolding bad_symbols settings settings_of
+  symbols_row = refl
 
-  pub no_bits : (shape_refusal rec ≡ 0 → ⊥) → bits_of rec ≡ 0
-  unfolding bits_of
-  no_bits h = rw (ne_eqb (shape_refusal rec) 0 h) refl
+  pub long_record : bad_record rec ≡ false → 6 ≤ length rec
+  long_record e = (whole_record rec e).0
 
-  pub all_bits : shape_refusal rec ≡ 0 → bits_of rec ≡ (sizes_of (fields rec)).nbits
-  unfolding bits_of burst_of settings settings_of sizes_of
-  all_bits h = rw (eq-eqb (shape_refusal rec) 0 h) refl
+  -- what is found of a record says how many bits it has
+  pub bits_found : (r : Result Sizes Cause) (o : Option Sizes) → number_of r ≡ shape_refusal rec → IfOk r (λ z. z ≡ sizes_of (fields rec)) → o ≡ result_ok r → option_map (λ z. z.nbits) o ≡ bits_in rec
+  unfolding bits_in burst_of settings settings_of sizes_of
+  bits_found (Ok z) o e h q = rw (eq-eqb _ 0 (sym e), q, h) refl
+  bits_found (Err cause) o e h q = rw (ne_eqb _ 0 (λ z. some_number cause (e ∙ z)), q) refl
+
+  -- where 0 stands for none
+  pub bits_or_none : unwrap_or (bits_in rec) 0 ≡ bits_of rec
+  unfolding bits_in bits_of
+  bits_or_none = go (eqb (shape_refusal rec) 0) (nbits (burst_of rec))
+    where
+      go : (t : Bool) (n : ℕ) → unwrap_or (cond t (Some n) None) 0 ≡ cond t n 0
+      go true n = refl
+      go false n = refl
+
+-- for `grind`, of the rows
+pub ruleset rows = (layout_row, codes_row, symbols_row, long_record, counted)

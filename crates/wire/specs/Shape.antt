@@ -1,5 +1,5 @@
 -- The rows of document 01's table of causes that a record's shape decides, and how many bits and bytes one of an accepted shape stands for.
-use Rattle.std.specs.Prelude.{ℕ, ◌+◌, ◌*◌, Bool, not, cond, ◌||◌, List, length, ltb, eqb}
+use Rattle.std.specs.Prelude.{ℕ, ◌+◌, ◌*◌, Bool, not, cond, ◌||◌, List, length, ltb, eqb, Option, Some, None}
 use Rattle.refine.specs.Refine.{nbits, ncell}
 use Rattle.table.specs.Rows.{bad_layout, bad_codes, bad_symbols}
 use Rattle.wire.specs.Record.{head, padding, settings, count_of, burst_of}
@@ -26,6 +26,10 @@ module _ (rec : List ℕ) where
   -- bits of a record whose shape is accepted, else 0
   unfoldable pub bits_of : ℕ
   bits_of = cond (eqb shape_refusal 0) (nbits (burst_of rec)) 0
+
+  -- the same, and none where the shape is not accepted
+  unfoldable pub bits_in : Option ℕ
+  bits_in = cond (eqb shape_refusal 0) (Some (nbits (burst_of rec))) None
 
   -- bytes of an answer, and of the estimates beside it
   abbrev pub answer_length : ℕ

@@ -10,29 +10,33 @@ pub fn put_numbers(src: &[f32], out: &mut [u8])
     requires { 4 * length src.now ≤ length out.old }
     ensures { out.new ≡ number_bytes (length src.now) src.now ++ drop (4 * length src.now) out.old }
 {
-    let n = src.len();
-    for i in 0..n {
-        let at = i * 4;
-        let to = at + 4;
-        put_word(ieee::to_bits32(src[i]), &mut out[at..to]);
+    // By index: after `chunks_exact_mut` no proof knows what was written.
+    for (i, x) in src.iter().enumerate() {
+        put_word(
+            std::num::f32_to_bits_with_nan(*x),
+            &mut out[i * 4..i * 4 + 4],
+        );
     }
 }
 
 // Both indices of the model, the scale, the spoilt likelihoods.
+#[tactic(auto, unfolding(crate::specs::Bytes::report_bytes))]
 fn put_report(r: Refined, out: &mut [u8])
     requires { (r.fd ≤ 255) × (r.tm ≤ 255) × (length out.old ≡ 10) }
     ensures { out.new ≡ report_bytes r }
 {
-    out[0] = r.fd as u8;
-    out[1] = r.tm as u8;
-    put_word(ieee::to_bits32(r.scale), &mut out[2..6]);
-    put_word(r.spoilt, &mut out[6..10]);
+    let (model, numbers) = out.split_at_mut(2);
+    let (scale, spoilt) = numbers.split_at_mut(4);
+    model.copy_from_slice(&[r.fd as u8, r.tm as u8]);
+    put_word(std::num::f32_to_bits_with_nan(r.scale), scale);
+    put_word(r.spoilt, spoilt);
 }
 
 pub fn put_answer(r: Refined, answer: &[f32], out: &mut [u8])
     requires { (r.fd ≤ 255) × (r.tm ≤ 255) × (10 + 4 * length answer.now ≤ length out.old) }
     ensures { out.new ≡ (report_bytes r ++ number_bytes (length answer.now) answer.now) ++ drop (10 + 4 * length answer.now) out.old }
 {
-    put_report(r, &mut out[..10]);
-    put_numbers(answer, &mut out[10..]);
+    let (report, numbers) = out.split_at_mut(10);
+    put_report(r, report);
+    put_numbers(answer, numbers);
 }

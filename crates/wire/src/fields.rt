@@ -1,8 +1,9 @@
 // The six bytes of fields before the numbers.
 ghost use Rattle.std.specs.Prelude.{◌≡◌, ◌≤◌, length};
 ghost use Rattle.wire.specs.Record as spec;
+ghost use Rattle.wire.specs.Sizes.{plain};
 
-use words::byte_at;
+use refine::Settings;
 
 #[derive(Clone, Copy)]
 pub struct Fields {
@@ -17,15 +18,45 @@ pub struct Fields {
 }
 
 // The six bytes as one number.
+#[tactic(auto, unfolding(crate::specs::Record::head))]
 pub fn head(record: &[u8]) -> u64
     requires { 6 ≤ length «record».now }
     ensures { result ≡ spec.head «record».now }
 {
-    let high = byte_at(record, 0) * 0x100_0000_0000 + byte_at(record, 1) * 0x1_0000_0000;
-    let middle = byte_at(record, 2) * 0x100_0000 + byte_at(record, 3) * 0x1_0000;
-    high + middle + byte_at(record, 4) * 0x100 + byte_at(record, 5)
+    let r = &record[..6];
+    u64::from_be_bytes([0, 0, r[0], r[1], r[2], r[3], r[4], r[5]])
 }
 
+impl Fields {
+    // What the fields say, with the numbers that stand first after them.
+    #[tactic(auto, unfolding(crate::specs::Record::settings_of))]
+    pub fn settings(self, boost: f32, pilot_gain: f32, p_h: f32) -> Settings
+        ensures { result ≡ spec.settings_of self boost pilot_gain p_h }
+    {
+        Settings {
+            layout: self.layout,
+            constellation: self.constellation,
+            nsym: self.nsym,
+            sparse: self.sparse,
+            spread: self.spread,
+            gain_code: self.gain_code,
+            k: self.k,
+            boost,
+            pilot_gain,
+            p_h,
+        }
+    }
+
+    // Before those numbers are read.
+    pub(crate) fn plain(self) -> Settings
+        ensures { result ≡ plain self }
+    {
+        self.settings(f32::NAN, f32::NAN, f32::NAN)
+    }
+}
+
+// Not a `From<u64>`, which would not say that the number is the six bytes.
+#[tactic(auto, unfolding(crate::specs::Record::fields_of))]
 pub fn fields_of(head: u64) -> Fields
     ensures { result ≡ spec.fields_of head }
 {

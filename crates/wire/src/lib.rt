@@ -9,4 +9,4 @@ mod shape;
 pub use answer::{put_answer, put_numbers};
 pub use fields::{Fields, fields_of, head};
 pub use read::numbers;
-pub use shape::{Sizes, bits, shape_refusal, sizes_of};
+pub use shape::{Sizes, bits, sizes_in, sizes_of};

@@ -1,17 +1,16 @@
 // The numbers past the fields.
-ghost use Rattle.std.specs.Prelude.{◌≡◌, ◌++◌, ◌+◌, ◌*◌, ◌≤◌, length, drop};
+ghost use Rattle.std.specs.Prelude.{◌≡◌, ◌+◌, ◌*◌, ◌≤◌, length};
 ghost use Rattle.seq.specs.Tab.{tab};
 ghost use Rattle.wire.specs.Record.{number_at};
 
 use words::word_at;
 
-pub fn numbers(record: &[u8], n: usize, out: &mut [f32])
-    requires { (6 + 4 * n ≤ length «record».now) × (n ≤ length out.old) }
-    ensures { out.new ≡ tab n (number_at «record».now) ++ drop n out.old }
+// As many as the list holds.
+pub fn numbers(record: &[u8], out: &mut [f32])
+    requires { 6 + 4 * length out.old ≤ length «record».now }
+    ensures { out.new ≡ tab (length out.old) (number_at «record».now) }
 {
-    let mut i = 0;
-    while i < n {
-        out[i] = ieee::of_bits32(word_at(record, 6 + 4 * i));
-        i += 1;
+    for (i, x) in out.iter_mut().enumerate() {
+        *x = std::num::f32_from_bits_with_nan(word_at(record, 6 + 4 * i));
     }
 }

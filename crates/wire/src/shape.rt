@@ -1,12 +1,13 @@
 // How long a record is by its fields, and the rows of the table of causes that this decides.
-ghost use Rattle.std.specs.Prelude.{◌≡◌};
+ghost use Rattle.std.specs.Prelude.{◌≡◌, IfOk};
+ghost use Rattle.cause.specs.Causes.{number_of};
 ghost use Rattle.table.specs.Sizes.{Counted};
-ghost use Rattle.table.specs.Rows.{bad_codes, bad_symbols};
 ghost use Rattle.wire.specs.Record.{fields};
 ghost use Rattle.wire.specs.Sizes.{plain, sizes_of};
-ghost use Rattle.wire.specs.Shape.{bad_record, bad_length, shape_refusal, bits_of};
+ghost use Rattle.wire.specs.Shape.{bad_record, bad_length, shape_refusal, bits_in};
 
 use crate::fields::{Fields, fields_of, head};
+use cause::Cause;
 
 // Carriers, data cells, cells of the grid, bits.
 #[derive(Clone, Copy)]
@@ -31,75 +32,53 @@ pub fn sizes_of(f: Fields) -> Sizes
     }
 }
 
+#[tactic(auto, unfolding(crate::specs::Shape::bad_record, crate::specs::Record::padding))]
 fn bad_record(record: &[u8]) -> bool
     ensures { result ≡ bad_record «record».now }
 {
-    if record.len() < 6 {
-        return true;
-    }
-    if record.len() > 8192 {
-        return true;
-    }
-    head(record) % 4 != 0
+    record.len() < 6 || record.len() > 8192 || head(record) % 4 != 0
 }
 
-fn bad_codes(f: Fields) -> bool
-    ensures { result ≡ bad_codes (plain f) }
-{
-    if f.constellation > 3 {
-        return true;
-    }
-    f.gain_code > 3
-}
-
-fn bad_symbols(f: Fields) -> bool
-    ensures { result ≡ bad_symbols (plain f) }
-{
-    if f.nsym == 0 {
-        return true;
-    }
-    f.nsym > 1023
-}
-
-fn bad_length(record: &[u8], f: Fields) -> bool
-    requires { (f ≡ fields «record».now) × Counted (plain f) }
+fn bad_length(record: &[u8], f: Fields, z: Sizes) -> bool
+    requires read { f ≡ fields «record».now }
+    requires counted { Counted (plain f) }
+    requires sized { z ≡ sizes_of f }
     ensures { result ≡ bad_length «record».now }
 {
-    let z = sizes_of(f);
     let count = 3 + z.nc + z.ncell + 2 * z.grid + f.priors;
     record.len() != 6 + 4 * count
 }
 
-// 0 for a record of an accepted shape, else the number of the first row that turns it away.
-pub fn shape_refusal(record: &[u8]) -> u32
-    ensures { result ≡ shape_refusal «record».now }
+// The sizes of a record of an accepted shape, else the first row that turns it away.
+#[tactic(auto, using(crate::proofs::Rows::rows), unfolding(crate::specs::Shape::shape_refusal))]
+pub fn sizes_in(record: &[u8]) -> Result<Sizes, Cause>
+    ensures refused { number_of result ≡ shape_refusal «record».now }
+    ensures accepted { IfOk result (λ z. z ≡ sizes_of (fields «record».now)) }
 {
     if bad_record(record) {
-        return 12;
+        return Err(Cause::Record);
     }
     let f = fields_of(head(record));
-    if f.layout > 8 {
-        return 1;
+    let s = f.plain();
+    if table::bad_layout(s) {
+        return Err(Cause::Layout);
     }
-    if bad_codes(f) {
-        return 2;
+    if table::bad_codes(s) {
+        return Err(Cause::Codes);
     }
-    if bad_symbols(f) {
-        return 3;
+    if table::bad_symbols(s) {
+        return Err(Cause::Symbols);
     }
-    if bad_length(record, f) {
-        return 12;
+    let z = sizes_of(f);
+    if bad_length(record, f, z) {
+        return Err(Cause::Record);
     }
-    0
+    Ok(z)
 }
 
-// Bits of a record of an accepted shape, else 0.
-pub fn bits(record: &[u8]) -> usize
-    ensures { result ≡ bits_of «record».now }
+// Bits of a record of an accepted shape.
+pub fn bits(record: &[u8]) -> Option<usize>
+    ensures { result ≡ bits_in «record».now }
 {
-    if shape_refusal(record) != 0 {
-        return 0;
-    }
-    let z = sizes_of(fields_of(head(record)));
-    z.nbits
+    Some(sizes_in(record).ok()?.nbits)
 }

@@ -1,4 +1,4 @@
-use Prim.Native.Nat.{◌≤◌, ◌-◌, ◌*◌}
+use Prim.Native.Nat.{◌*◌}
 use mathlib.Core.Path.{◌≡◌}
 use mathlib.Core.List.{◌++◌}
 use lib.ListN.{drop}
@@ -7,7 +7,4 @@ use Rattle.expect.specs.Expect.{spread_row}
 use Rattle.expect.proofs.respread.Given as goal
 
 abbrev pub invariant-loop-t : goal.invariant-loop-t
-invariant-loop-t l = (l.t ≤ l.nsym) × (l.out ≡ cat l.t (λ i. spread_row l.dc l.soft i l.gain) ++ drop (l.t * (l.dc * 3)) l.initial.out)
-
-abbrev pub decreases-loop-t : goal.decreases-loop-t
-decreases-loop-t l = l.nsym - l.t
+invariant-loop-t l = l.out ≡ cat l.t (λ i. spread_row l.dc l.initial.out i l.gain) ++ drop (l.t * (l.dc * 3)) l.initial.out

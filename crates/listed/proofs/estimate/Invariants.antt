@@ -1,10 +1,7 @@
 -- Before each turn the records below i are in the lent lists.
-use Rattle.std.proofs.Common.{◌-◌, ◌≤◌, length}
+use Rattle.std.proofs.Common.{length}
 use Rattle.listed.proofs.Filled.{Filled}
 use Rattle.listed.proofs.estimate.Given as goal
 
 abbrev pub invariant-loop-i : goal.invariant-loop-i
-invariant-loop-i l = (l.i ≤ length l.ps) × Filled l.ps (length l.initial.w) (length l.initial.pf) l.i l.w l.pf
-
-abbrev pub decreases-loop-i : goal.decreases-loop-i
-decreases-loop-i l = length l.ps - l.i
+invariant-loop-i l = Filled l.ps (length l.initial.w) (length l.initial.pf) l.i l.w l.pf

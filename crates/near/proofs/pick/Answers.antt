@@ -5,12 +5,14 @@ use Rattle.near.proofs.pick.Goals as goal
 pub pick_in-requires : goal.pick_in-requires
 pick_in-requires c =
     let s = c.args in
+    let ps = s.ps.now in
     let p = c.requires in
-    (span s.q s.w s.pc.now s.pg.now s.pf.now s.start.now p.loaded p.asked _ _ _ _ _ c.low-g.ensures c.high.ensures c.start_of-lo.ensures c.start_of-mid.ensures c.start_of-hi.ensures, p.asked.some, p.asked.most, p.room)
+    (span s.q s.w ps.c.now ps.g.now ps.f.now ps.start.now p.loaded p.asked _ _ _ _ _ c.low-g.ensures c.high.ensures c.start_of-lo.ensures c.start_of-mid.ensures c.start_of-hi.ensures, p.asked.some, p.asked.most, p.room)
 
 pub returns : goal.returns
 returns c =
     let s = c.args in
+    let ps = s.ps.now in
     let p = c.requires in
     let r = c.pick_in.ensures in
-    record { most = r.most; same = picked s.q s.w s.pc.now s.pg.now s.pf.now s.start.now p.loaded p.asked _ _ _ _ _ c.low-g.ensures c.high.ensures c.start_of-lo.ensures c.start_of-mid.ensures c.start_of-hi.ensures s.x _ r.same }
+    record { most = r.most; same = rw (← c.unwrap_or-x.ensures) (picked s.q s.w ps.c.now ps.g.now ps.f.now ps.start.now p.loaded p.asked _ _ _ _ _ c.low-g.ensures c.high.ensures c.start_of-lo.ensures c.start_of-mid.ensures c.start_of-hi.ensures _ _ r.same) }

@@ -1,21 +1,25 @@
 -- `pick_in` meets its contract, by the two ways that it goes.
+use mathlib.Core.Path.{◌∙◌}
 use native.Mathlib.Omega.{arith}
 use Rattle.near.specs.Walk.{skips, keys}
 use Rattle.near.proofs.Gathered.{few}
 use Rattle.near.proofs.Selected.{many}
 use Rattle.near.proofs.pick_in.Goals as goal
 
-pub returns-then-n-w : goal.returns-then-n-w
-returns-then-n-w c =
-    let s = c.args in
-    let g = c.gather-n.ensures in
-    record { most = omega arith; same = few s.w.k (skips s.q s.w s.x s.pc.now) (keys s.q s.pc.now s.pg.now) s.lo s.hi _ _ (omega arith) g }
+pub returns-then-n-s : goal.returns-then-n-s
+returns-then-n-s c =
+    let s = c.args.s in
+    let ps = c.args.ps.now in
+    record { most = omega arith; same = few s.w.k (skips s.q s.w s.x ps.c.now) (keys s.q ps.c.now ps.g.now) c.args.lo c.args.hi _ _ (omega arith) c.gather-n.ensures }
 
 pub returns : goal.returns
 returns c =
-    let s = c.args in
+    let s = c.args.s in
+    let ps = c.args.ps.now in
     let p = c.requires.0 in
-    let g = c.gather-n.ensures in
-    let r = c.select-m in
+    let r = c.select-near in
     let u = c.unpack in
-    record { most = r.ensures.0; same = many s.w.k (skips s.q s.w s.x s.pc.now) (keys s.q s.pc.now s.pg.now) s.lo s.mid s.hi p.few p.below p.above r.result r.new.a u.new.idx (g.many c.if-n-w.false) r.ensures.1 u.ensures }
+    record {
+      most = omega (arith, u.ensures.0, r.ensures.few);
+      same = u.ensures.1 ∙ many s.w.k (skips s.q s.w s.x ps.c.now) (keys s.q ps.c.now ps.g.now) c.args.lo c.args.mid c.args.hi p.few p.below p.above _ (c.gather-n.ensures.many c.if-n-s.false) r.ensures.nearest;
+    }

@@ -1,15 +1,12 @@
--- `all_finite` meets its contract: the numbers passed have met the test.
-use mathlib.Core.Path.{sym, ◌∙◌}
-use native.Mathlib.Omega.{arith}
+-- `all_finite` meets its contract.
+use Rattle.std.proofs.Common.{rules, tests}
+use Rattle.std.proofs.lemmas.Iterator.{YieldsList-from_slice}
+use Rattle.std.proofs.lemmas.Iterator.Search.{all_from_yields_List}
 use Rattle.ieee.specs.Order.{is_finite}
-use Rattle.scan.proofs.Scanning.{scan_on, scan_stop, scan_end}
+use Rattle.scan.proofs.Scanning.{all_is}
 use Rattle.scan.proofs.all_finite.Goals as goal
 
-pub returns-then-not-is_finite32 : goal.returns-then-not-is_finite32
-returns-then-not-is_finite32 c = let l = c.before.before.before.before in scan_stop is_finite _ l.loop-i.i (omega arith) (sym c.if-not-is_finite32.true ∙ c.is_finite32.ensures) l.loop-i.invariant.1
-
-pub loop-i-preserved : goal.loop-i-preserved
-loop-i-preserved c = let l = c.before.before.before.before in (omega arith, scan_on is_finite _ l.loop-i.i (omega arith) (sym c.if-not-is_finite32.false ∙ c.is_finite32.ensures) l.loop-i.invariant.1)
-
 pub returns : goal.returns
-returns c = scan_end is_finite _ c.loop-i.i (omega arith) c.loop-i.invariant.1
+returns c =
+    let xs = c.args.xs.now in
+    rw (all_is is_finite xs) (all_from_yields_List is_finite _ _ _ c.all.ensures.ran (YieldsList-from_slice xs cc) (λ x b q k. search (rules, tests)))

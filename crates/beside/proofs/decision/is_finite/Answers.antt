@@ -1,12 +1,12 @@
 -- `is_finite` meets its contract.
-use mathlib.Core.Path.{refl}
+use Rattle.std.proofs.Common.{rules}
 use Rattle.beside.specs.Decisions.{isFiniteᶜ}
 use Rattle.beside.proofs.decision.is_finite.Goals as goal
 
-pub returns-then-is_finite32 : goal.returns-then-is_finite32
+pub returns-then-is_finite : goal.returns-then-is_finite
 unfolding isFiniteᶜ
-returns-then-is_finite32 c = rw (← c.is_finite32.ensures, c.if-is_finite32.true, c.is_finite32-then-is_finite32.ensures) refl
+returns-then-is_finite c = search rules
 
-pub returns : goal.returns
+pub returns-else-is_finite : goal.returns-else-is_finite
 unfolding isFiniteᶜ
-returns c = rw (← c.is_finite32.ensures, c.if-is_finite32.false) refl
+returns-else-is_finite c = search rules

@@ -1,14 +1,8 @@
-use Prim.Native.Nat.{◌≤◌, ◌-◌}
-use mathlib.Core.Path.{◌≡◌}
-use mathlib.Core.List.{◌++◌}
-use lib.ListN.{length, drop}
+use Rattle.std.proofs.Common.{◌≡◌, ◌++◌, drop}
 use Rattle.seq.specs.Tab.{tab}
-use Rattle.load.specs.Pilots.{pilots}
+use Rattle.load.specs.Pilots.{listed}
 use Rattle.model.specs.Select.{tried}
 use Rattle.bursts.proofs.models.residuals.Given as goal
 
 abbrev pub invariant-loop-t : goal.invariant-loop-t
-invariant-loop-t l = (l.t ≤ 9) × (l.rs ≡ tab l.t (λ i. (tried l.s (pilots l.pc l.pg l.pf (length l.pc)) l.start i).r) ++ drop l.t l.initial.rs)
-
-abbrev pub decreases-loop-t : goal.decreases-loop-t
-decreases-loop-t l = 9 - l.t
+invariant-loop-t l = l.r-items ≡ tab l.t (λ i. (tried l.s (listed l.ps) l.ps.start.now i).r) ++ drop l.t l.initial.r-items

@@ -1,12 +1,12 @@
--- `bursts::select` meets its contract.
+-- `select` meets its contract.
 use Rattle.bursts.proofs.Loaded.{fit_in}
 use Rattle.bursts.proofs.models.select.Goals as goal
 
-pub residuals-residuals-requires : goal.residuals-residuals-requires
-residuals-residuals-requires c = rw (c.starts_in-start.ensures, c.symbols_in-pg.ensures) (fit_in c.requires)
-
 pub select_model-m-requires : goal.select_model-m-requires
-select_model-m-requires c = rw (c.starts_in-start.ensures, c.symbols_in-pg.ensures) (fit_in c.requires)
+select_model-m-requires c = fit_in c.requires _ c.pilots_in-ps.ensures.on_grid
+
+pub residuals-requires : goal.residuals-requires
+residuals-requires c = fit_in c.requires _ c.pilots_in-ps.ensures.on_grid
 
 pub returns : goal.returns
-returns c = rw (c.select_model-m.ensures, c.residuals-residuals.ensures, c.starts_in-start.ensures, c.symbols_in-pg.ensures, c.requires.loaded.long_pc)
+returns c = let p = c.pilots_in-ps.ensures in rw (c.select_model-m.ensures, c.residuals.ensures, p.starts, p.listed)

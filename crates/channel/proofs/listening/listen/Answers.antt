@@ -1,22 +1,17 @@
--- `listen` meets its contract.
-use mathlib.Core.Path.{refl}
+-- `listen` meets its contract: the pilots' part comes back at the front of the list.
+use Prim.Native.Nat.{◌*◌}
+use mathlib.Core.Path.{◌≡◌}
 use native.Mathlib.Omega.{arith}
-use Rattle.channel.proofs.Expecting.{may_expect, may_load, loads}
+use lib.ListN.{length}
+use lib.Seq.{take_at}
+use Rattle.load.specs.Fit.{places}
+use Rattle.channel.proofs.Expecting.{expected_are}
 use Rattle.channel.proofs.listening.listen.Goals as goal
-
-pub expected_at-requires : goal.expected_at-requires
-expected_at-requires c =
-    let a = c.args in
-    let r = c.requires in
-    let n = c.places_of-a.ensures in
-    (may_expect a.p a.grid.now a.sigma.now a.cells.now a.unit.now a.prior.now a.wf.now a.wf.now a.wu.now _ r n refl, refl, r.some, r.most, omega (arith, n, r.in_wf))
-
-pub load_within-requires : goal.load_within-requires
-load_within-requires c =
-    let a = c.args in
-    may_load a.p a.grid.now a.sigma.now a.cells.now a.unit.now a.prior.now a.wf.now _ a.wu.now _ c.requires c.places_of-a.ensures c.expected_at.auto.wf
 
 pub returns : goal.returns
 returns c =
     let a = c.args in
-    loads a.p a.grid.now a.sigma.now a.cells.now a.unit.now a.prior.now a.wf.now _ a.wu.now _ c.requires c.places_of-a.ensures c.expected_at.auto.wf _ _ _ c.expected_at.ensures c.load_within.ensures
+    let n = 3 * places a.p.source in
+    let long : length c.load.new.pf ≡ n = omega (arith, c.load.auto.pf, c.split_at_mut-pilots.ensures.front_len, c.places_of.ensures) in
+    let expected = expected_are a.p.shape a.unit.now.pts a.prior.now _ _ _ _ c.split_at_mut-expected.ensures.front_len c.to_slots.ensures c.expected.ensures in
+    rw (take_at c.load.new.pf _ n long) (rw expected at c.load.ensures)

@@ -1,5 +1,5 @@
 -- `near_loaded` meets its contract.
-use native.Mathlib.Omega.{arith}
+use Rattle.std.proofs.Common.{arith}
 use Rattle.channel.proofs.Asking.{loaded_in, near_in}
 use Rattle.channel.proofs.single.near_loaded.Goals as goal
 
@@ -12,5 +12,4 @@ near_records-requires c =
 pub returns : goal.returns
 returns c =
     let x = c.args in
-    let e = c.near_records.ensures in
-    (e.0, near_in x.p x.np x.wf.now x.wu.now _ c.places_of-n.ensures c.requires.1 x.g _ e.1)
+    near_in x.p x.np x.wf.now x.wu.now _ c.places_of-n.ensures c.requires.1 x.g _ c.near_records.ensures

@@ -1,4 +1,3 @@
-use Prim.Native.Nat.{◌≤◌, ◌-◌}
 use mathlib.Core.Path.{◌≡◌}
 use mathlib.Core.List.{◌++◌}
 use lib.ListN.{drop}
@@ -7,7 +6,4 @@ use Rattle.demap.specs.Demap.{likelihood_of}
 use Rattle.demap.proofs.likelihoods.demap.Given as goal
 
 abbrev pub invariant-loop-b : goal.invariant-loop-b
-invariant-loop-b l = (l.b ≤ l.bps) × (l.out ≡ tab l.b (likelihood_of l.d l.bps) ++ drop l.b l.initial.out)
-
-abbrev pub decreases-loop-b : goal.decreases-loop-b
-decreases-loop-b l = l.bps - l.b
+invariant-loop-b l = l.l-items ≡ tab l.b (likelihood_of l.w.d.at l.w.d.bps) ++ drop l.b l.initial.l-items

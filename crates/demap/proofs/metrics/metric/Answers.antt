@@ -4,8 +4,8 @@ use Rattle.demap.specs.Demap.{variance_of, metric_of}
 use Rattle.demap.proofs.metrics.metric.Goals as goal
 
 pub ln-requires : goal.ln-requires
-ln-requires c = rw c.max32-v.ensures (max_laws.second _ _)
+ln-requires c = rw c.max-v.ensures (max_laws.second _ _)
 
 pub returns : goal.returns
 unfolding metric_of variance_of
-returns c = rw (c.ln.ensures, c.distance.ensures, c.max32-v.ensures, c.norm_sqr.ensures)
+returns c = rw (c.ln.ensures, c.distance.ensures, c.max-v.ensures, c.norm_sqr.ensures)

@@ -1,15 +1,11 @@
-use Prim.Native.Nat.{ℕ, ◌≤◌, ◌-◌}
+use Prim.Native.Nat.{ℕ}
 use mathlib.Core.Path.{◌≡◌}
 use mathlib.Core.List.{◌++◌}
 use lib.ListN.{drop}
 use Rattle.seq.specs.Tab.{tab}
 use Rattle.points.specs.Table.{point_at}
-use Rattle.soft.specs.Tree.{page}
 use Rattle.demap.specs.Demap.{metric_of}
 use Rattle.demap.proofs.metrics.metrics.Given as goal
 
 abbrev pub invariant-loop-k : goal.invariant-loop-k
-invariant-loop-k l = (l.k ≤ l.n) × (l.n ≤ 64) × (l.d ≡ tab l.k (λ (j : ℕ). metric_of l.c (point_at l.pts j)) ++ drop l.k page)
-
-abbrev pub decreases-loop-k : goal.decreases-loop-k
-decreases-loop-k l = l.n - l.k
+invariant-loop-k l = l.d-items ≡ tab l.k (λ (j : ℕ). metric_of l.c (point_at l.pts.pts j)) ++ drop l.k l.initial.d-items

@@ -1,16 +1,12 @@
-use Prim.Native.Nat.{ℕ, ◌≤◌, ◌-◌}
+use Prim.Native.Nat.{ℕ}
 use mathlib.Core.Path.{◌≡◌}
 use mathlib.Core.List.{◌++◌}
 use lib.ListN.{drop}
 use Rattle.seq.specs.Tab.{tab}
 use Rattle.ieee.specs.Num.{◌⊟◌}
 use Rattle.elementary.specs.Exp.{exp_at}
-use Rattle.soft.specs.Tree.{page}
 use Rattle.demap.specs.Demap.{at}
 use Rattle.demap.proofs.shared.exponentials.Given as goal
 
 abbrev pub invariant-loop-k : goal.invariant-loop-k
-invariant-loop-k l = (l.k ≤ l.n) × (l.n ≤ 64) × (l.e ≡ tab l.k (λ (j : ℕ). exp_at (at l.d j ⊟ l.m)) ++ drop l.k page)
-
-abbrev pub decreases-loop-k : goal.decreases-loop-k
-decreases-loop-k l = l.n - l.k
+invariant-loop-k l = l.at ≡ tab l.k (λ (j : ℕ). exp_at (at l.d.at j ⊟ l.m)) ++ drop l.k l.initial.at

@@ -1,6 +1,5 @@
 -- `same` goes by the test for equality, which holds for zeros of either sign.
 use mathlib.Core.Path.{sym, subst}
-use mathlib.Core.Bool.{true≢false}
 use lib.Dec.{T}
 use Rattle.demap.proofs.Same.{same_float}
 use Rattle.demap.proofs.shared.same.Goals as goal
@@ -9,6 +8,3 @@ pub returns-then-x-y : goal.returns-then-x-y
 returns-then-x-y c = λ e.
     let g = c.well_formed in
     same_float _ _ (subst T (sym g.0.1) tt) (subst T (sym g.1.0.1) tt) (subst T (sym c.if-x-y.true) tt) (subst T (sym e) tt)
-
-pub returns : goal.returns
-returns c = λ e. absurd (true≢false (sym e))

@@ -3,23 +3,20 @@ use Rattle.elementary.specs.Domain.{Number}
 use Rattle.elementary.specs.Circular.{wave_at, cos_at}
 use Rattle.elementary.proofs.Products.{Small}
 use Rattle.elementary.proofs.Quarters.{cos_at_nan, cos_at_is}
-use Rattle.ieee.proofs.Floats.{is_no_nan, quotient_nan64}
-use lib.Ieee.Compare.{differs_from_itself}
-use Rattle.std.proofs.Common.{ℕ, T, sym, ap, ◌∙◌, subst}
+use Rattle.ieee.proofs.Floats.{number, nan_answer}
+use Rattle.std.proofs.Common.{ℕ, ap, ◌∙◌}
+use lib.Ieee.{binary64}
 use Rattle.elementary.proofs.circular.cos.Goals as goal
-use Rattle.elementary.proofs.circular.cos.Goals.{Else-p}
+use Rattle.elementary.proofs.circular.cos.Goals.{Else-is_nan}
 
-no_nan : (c : Else-p) → Number c.args.p
-no_nan c = is_no_nan c.args.p c.if-p.false
+no_nan : (c : Else-is_nan) → Number c.args.p
+no_nan c = number c.args.p c.if-is_nan.ensures.value
 
-small : (c : Else-p) → Small c.args.p
+small : (c : Else-is_nan) → Small c.args.p
 small c = (no_nan c, c.requires)
 
-pub returns-then-p : goal.returns-then-p
-returns-then-p c = quotient_nan64 ∙ sym (ap cos_at (differs_from_itself c.args.p (subst T (sym c.if-p.true) tt)) ∙ cos_at_nan)
-
-pub size30-requires : goal.size30-requires
-size30-requires c = small c
+pub returns-then-is_nan : goal.returns-then-is_nan
+returns-then-is_nan c = nan_answer binary64 cos_at c.args.p cos_at_nan c.if-is_nan.ensures.value
 
 pub returns : goal.returns
 returns c = c.wave.ensures ∙ ap (λ (x : ℕ). wave_at 1 x) c.size30.ensures.0 ∙ cos_at_is c.args.p (small c.before.before)

@@ -1,32 +1,31 @@
 -- `elementary::exp` meets its contract. Assumes nothing.
-use Rattle.std.proofs.Common.{◌≡◌, ℕ, ◌*◌, ◌/◌, ◌^◌, ◌≤◌, false, T, sym, ap, ◌∙◌, subst, le_trans, arith, lit≤, le→leb}
-use lib.Ieee.{Float, binary32, fits, of_bits, to_bits, lt, in_float, round}
+use Rattle.std.proofs.Common.{◌≡◌, ℕ, ◌*◌, ◌/◌, ◌^◌, ◌≤◌, false, T, sym, ap, ◌∙◌, subst, arith}
+use lib.Ieee.{Float, binary32, fits, of_bits, to_bits, lt, round}
 use lib.Ieee.Bits.{of_bits-to_bits}
-use lib.Ieee.Compare.{differs_from_itself}
 use Rattle.elementary.specs.Constants.{minus87}
 use Rattle.elementary.specs.Domain.{Number}
 use Rattle.elementary.specs.FixedPoint.{M, L, whole_of}
 use Rattle.elementary.specs.Exp.{exp_fixed, exp_at}
-use Rattle.ieee.proofs.Floats.{is_no_nan, quotient_nan}
+use Rattle.ieee.proofs.Floats.{number, nan_answer}
 use Rattle.elementary.proofs.WholePart.{Bounded, bounded, whole_le, field_le}
 use Rattle.elementary.proofs.PowerScale.{power_no_nan, scaled}
 use Rattle.elementary.proofs.ExpCases.{exp_nan, exp_below, exp_from, exp_fixed_lem}
 use Rattle.elementary.proofs.exponential.exp.Goals as goal
-use Rattle.elementary.proofs.exponential.exp.Goals.{After-fixed_bits-q, Else-x, Else-x-2, Start}
+use Rattle.elementary.proofs.exponential.exp.Goals.{After-fixed_bits-q, Else-is_nan, Else-x, After-is_nan}
 
-held : (c : Start) → T (fits binary32 c.args.x)
+held : (c : After-is_nan) → T (fits binary32 c.args.x)
 held c = subst T (sym c.well_formed.0.1) tt
 
-back : (c : Start) → of_bits binary32 (to_bits binary32 c.args.x) ≡ c.args.x
+back : (c : After-is_nan) → of_bits binary32 (to_bits binary32 c.args.x) ≡ c.args.x
 back c = of_bits-to_bits binary32 c.args.x (held c)
 
-no_nan : (c : Else-x) → Number c.args.x
-no_nan c = is_no_nan c.args.x c.if-x.false
+no_nan : (c : Else-is_nan) → Number c.args.x
+no_nan c = number c.args.x c.if-is_nan.ensures.value
 
-above_least : (c : Else-x-2) → lt c.args.x minus87 ≡ false
-above_least c = c.if-x-2.false
+above_least : (c : Else-x) → lt c.args.x minus87 ≡ false
+above_least c = c.if-x.false
 
-sure : (c : Else-x-2) → Bounded c.args.x
+sure : (c : Else-x) → Bounded c.args.x
 sure c = bounded c.args.x (no_nan c.before) c.requires (above_least c)
 
 size : (c : After-fixed_bits-q) → c.fixed_bits-q.result ≡ whole_of M c.args.x
@@ -38,23 +37,16 @@ most c = subst (λ (q : ℕ). q ≤ 87 * M) (sym (size c)) (whole_le c.args.x (s
 turns : (q : ℕ) → q ≤ 87 * M → q / L ≤ 125
 turns q h = omega arith
 
+pub returns-then-is_nan : goal.returns-then-is_nan
+returns-then-is_nan c = nan_answer binary32 exp_at c.args.x exp_nan c.if-is_nan.ensures.value
+
 pub returns-then-x : goal.returns-then-x
-returns-then-x c = quotient_nan ∙ sym (ap exp_at (differs_from_itself c.args.x (subst T (sym c.if-x.true) tt)) ∙ exp_nan)
-
-pub returns-then-x-2 : goal.returns-then-x-2
-returns-then-x-2 c = sym (exp_below c.args.x (no_nan c.before) c.if-x-2.true)
-
-pub float_to_bits-x : goal.float_to_bits-x
-float_to_bits-x c = no_nan c.before
+returns-then-x c = sym (exp_below c.args.x (no_nan c.before) c.if-x.true)
 
 pub fixed_bits-q-requires : goal.fixed_bits-q-requires
 fixed_bits-q-requires c =
     let b = to_bits binary32 c.args.x in
     field_le b (subst (λ (x : Float). Number x) (sym (back c.before.before)) (no_nan c.before)) (subst (λ (x : Float). Bounded x) (sym (back c.before.before)) (sure c))
-
-pub int_to_float-p : goal.int_to_float-p
-unfolding in_float
-int_to_float-p c = le→leb c.horner-p.result (2 ^ 53) (le_trans c.horner-p.ensures.1.1 (lit≤ tt))
 
 pub overflow_sub-n : goal.overflow_sub-n
 overflow_sub-n c = omega (arith, turns c.fixed_bits-q.result (most c.before.before.before))

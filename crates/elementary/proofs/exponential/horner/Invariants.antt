@@ -5,6 +5,3 @@ use Rattle.elementary.proofs.exponential.horner.Given as goal
 
 abbrev pub invariant-loop-j : goal.invariant-loop-j
 invariant-loop-j l = (turns 1 l.j (exp_turn l.f) l.p ≡ exp_sum l.f) × ((0 < l.p) × (l.p ≤ M))
-
-abbrev pub decreases-loop-j : goal.decreases-loop-j
-decreases-loop-j l = l.j

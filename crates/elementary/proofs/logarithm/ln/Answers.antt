@@ -2,24 +2,23 @@
 use Rattle.elementary.specs.Domain.{Number, FromLeast}
 use Rattle.elementary.specs.Ln.{ln_at}
 use Rattle.elementary.proofs.LnParts.{domain, bits_inf, ln_at_nan, ln_at_inf}
-use Rattle.ieee.proofs.Floats.{is_no_nan, quotient_nan}
+use Rattle.ieee.proofs.Floats.{number, nan_answer}
 use lib.Ieee.Bits.{of_bits-to_bits, to_bits-lt}
-use lib.Ieee.Compare.{differs_from_itself}
 use Rattle.std.proofs.Common.{◌≡◌, ℕ, ◌≤◌, false, T, sym, ap, ◌∙◌, subst, arith}
 use lib.Ieee.{Float, inf, binary32, fits, of_bits, to_bits}
 use Rattle.elementary.proofs.logarithm.ln.Goals as goal
-use Rattle.elementary.proofs.logarithm.ln.Goals.{Else-v, Start, Then-b-ge2139095040}
+use Rattle.elementary.proofs.logarithm.ln.Goals.{Else-is_nan, After-is_nan, Then-b-ge2139095040}
 
-held : (c : Start) → T (fits binary32 c.args.v)
+held : (c : After-is_nan) → T (fits binary32 c.args.v)
 held c = subst T (sym c.well_formed.0.1) tt
 
-no_nan : (c : Else-v) → Number c.args.v
-no_nan c = is_no_nan c.args.v c.if-v.false
+no_nan : (c : Else-is_nan) → Number c.args.v
+no_nan c = number c.args.v c.if-is_nan.ensures.value
 
-back : (c : Start) → of_bits binary32 (to_bits binary32 c.args.v) ≡ c.args.v
+back : (c : After-is_nan) → of_bits binary32 (to_bits binary32 c.args.v) ≡ c.args.v
 back c = of_bits-to_bits binary32 c.args.v (held c)
 
-sure : (c : Else-v) → (8388608 ≤ to_bits binary32 c.args.v) × (to_bits binary32 c.args.v ≤ 2139095040)
+sure : (c : Else-is_nan) → (8388608 ≤ to_bits binary32 c.args.v) × (to_bits binary32 c.args.v ≤ 2139095040)
 sure c =
     let e = sym (back c.before) in
     domain (to_bits binary32 c.args.v) (to_bits-lt binary32 c.args.v (held c.before)) (subst (λ (x : Float). Number x) e (no_nan c)) (subst (λ (x : Float). FromLeast x) e c.requires)
@@ -30,11 +29,8 @@ at_top c = sym (back c.before.before) ∙ bits_inf (to_bits binary32 c.args.v) (
     meet : (b : ℕ) → 2139095040 ≤ b → b ≤ 2139095040 → b ≡ 2139095040
     meet b h k = omega arith
 
-pub returns-then-v : goal.returns-then-v
-returns-then-v c = quotient_nan ∙ sym (ap ln_at (differs_from_itself c.args.v (subst T (sym c.if-v.true) tt)) ∙ ln_at_nan)
-
-pub float_to_bits-b : goal.float_to_bits-b
-float_to_bits-b c = no_nan c
+pub returns-then-is_nan : goal.returns-then-is_nan
+returns-then-is_nan c = nan_answer binary32 ln_at c.args.v ln_at_nan c.if-is_nan.ensures.value
 
 pub returns-then-b-ge2139095040 : goal.returns-then-b-ge2139095040
 returns-then-b-ge2139095040 c =

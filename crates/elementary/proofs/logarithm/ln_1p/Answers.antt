@@ -6,24 +6,23 @@ use Rattle.elementary.specs.FixedPoint.{M, whole_of}
 use Rattle.elementary.specs.Ln.{odd_of, ln1p_at}
 use Rattle.elementary.proofs.WholePart.{Bounded, field_le, in_unit, unit_bounded, unit_whole}
 use Rattle.elementary.proofs.LnParts.{t_lt, ln1p_at_nan, ln1p_at_is}
-use Rattle.ieee.proofs.Floats.{is_no_nan, quotient_nan}
+use Rattle.ieee.proofs.Floats.{number, nan_answer}
 use lib.Ieee.Bits.{of_bits-to_bits}
-use lib.Ieee.Compare.{differs_from_itself}
 use Rattle.std.proofs.Common.{◌≡◌, ℕ, ◌+◌, ◌*◌, ◌/◌, ◌≤◌, false, T, sym, ap, ◌∙◌, subst, arith}
 use lib.Ieee.{Float, binary32, fits, of_bits, to_bits, round}
 use Rattle.elementary.proofs.logarithm.ln_1p.Goals as goal
-use Rattle.elementary.proofs.logarithm.ln_1p.Goals.{After-fixed_bits-q, Else-t, Start}
+use Rattle.elementary.proofs.logarithm.ln_1p.Goals.{After-fixed_bits-q, Else-is_nan, After-is_nan}
 
-held : (c : Start) → T (fits binary32 c.args.t)
+held : (c : After-is_nan) → T (fits binary32 c.args.t)
 held c = subst T (sym c.well_formed.0.1) tt
 
-no_nan : (c : Else-t) → Number c.args.t
-no_nan c = is_no_nan c.args.t c.if-t.false
+no_nan : (c : Else-is_nan) → Number c.args.t
+no_nan c = number c.args.t c.if-is_nan.ensures.value
 
-back : (c : Start) → of_bits binary32 (to_bits binary32 c.args.t) ≡ c.args.t
+back : (c : After-is_nan) → of_bits binary32 (to_bits binary32 c.args.t) ≡ c.args.t
 back c = of_bits-to_bits binary32 c.args.t (held c)
 
-sure : (c : Else-t) → T (finite c.args.t) × (num c.args.t ≤ den c.args.t)
+sure : (c : Else-is_nan) → T (finite c.args.t) × (num c.args.t ≤ den c.args.t)
 sure c = in_unit c.args.t (no_nan c) c.requires
 
 size : (c : After-fixed_bits-q) → c.fixed_bits-q.result ≡ whole_of M c.args.t
@@ -32,11 +31,8 @@ size c = c.fixed_bits-q.ensures ∙ ap (whole_of M) (back c.before.before)
 most : (c : After-fixed_bits-q) → c.fixed_bits-q.result ≤ M
 most c = subst (λ (q : ℕ). q ≤ M) (sym (size c)) (unit_whole c.args.t (sure c.before))
 
-pub returns-then-t : goal.returns-then-t
-returns-then-t c = quotient_nan ∙ sym (ap ln1p_at (differs_from_itself c.args.t (subst T (sym c.if-t.true) tt)) ∙ ln1p_at_nan)
-
-pub float_to_bits-t : goal.float_to_bits-t
-float_to_bits-t c = no_nan c
+pub returns-then-is_nan : goal.returns-then-is_nan
+returns-then-is_nan c = nan_answer binary32 ln1p_at c.args.t ln1p_at_nan c.if-is_nan.ensures.value
 
 pub fixed_bits-q-requires : goal.fixed_bits-q-requires
 fixed_bits-q-requires c =
@@ -48,9 +44,6 @@ overflow_mul-q c = omega (arith, most c)
 
 pub overflow_add-q : goal.overflow_add-q
 overflow_add-q c = omega (arith, most c)
-
-pub overflow_mul-q-2 : goal.overflow_mul-q-2
-overflow_mul-q-2 c = omega (arith, t_lt c.fixed_bits-q.result (most c))
 
 pub odd-requires : goal.odd-requires
 odd-requires c = t_lt c.fixed_bits-q.result (most c)

@@ -1,12 +1,9 @@
 -- `elementary::ln_bits` meets its contract. Assumes nothing.
 use lib.Ieee.{binary32}
 use Rattle.elementary.specs.FixedPoint.{M, L, over}
-use Rattle.elementary.proofs.LnParts.{z_lt, ln_parts_lem}
-use Rattle.std.proofs.Common.{ℕ, ◌+◌, ◌*◌, ◌/◌, ◌%◌, sym, ap, ◌∙◌, arith}
+use Rattle.elementary.proofs.LnParts.{ln_parts_lem}
+use Rattle.std.proofs.Common.{ℕ, ◌+◌, ◌*◌, ◌/◌, sym, ap, ◌∙◌}
 use Rattle.elementary.proofs.logarithm.ln_bits.Goals as goal
-
-pub odd-requires : goal.odd-requires
-odd-requires c = z_lt (c.args.b % 8388608) (omega arith)
 
 pub returns : goal.returns
 returns c =

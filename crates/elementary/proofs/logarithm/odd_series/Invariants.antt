@@ -4,7 +4,4 @@ use Rattle.elementary.specs.Ln.{odd_turn, odd_sum}
 use Rattle.elementary.proofs.logarithm.odd_series.Given as goal
 
 abbrev pub invariant-loop-j : goal.invariant-loop-j
-invariant-loop-j l = (turns 0 l.j (odd_turn l.w) l.s ≡ odd_sum l.w) × ((l.s ≤ 2 ^ 33) × (l.j ≤ 11))
-
-abbrev pub decreases-loop-j : goal.decreases-loop-j
-decreases-loop-j l = l.j
+invariant-loop-j l = (turns 0 l.j (odd_turn l.w) l.s ≡ odd_sum l.w) × (l.s ≤ 2 ^ 33)

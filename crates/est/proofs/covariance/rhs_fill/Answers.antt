@@ -1,29 +1,23 @@
 -- `rhs_fill` meets its contract.
+use Rattle.std.proofs.Common.{arith}
 use Rattle.seq.specs.Loop.Laws.{for_none, for_step, for_end}
 use Rattle.est.specs.Covariance.{rhs_at, rhs_of}
-use Rattle.std.proofs.Common.{◌<◌, length, refl, arith}
+use Rattle.est.proofs.Columns.{long, carrier_of, symbol_of, near_cell}
 use Rattle.est.proofs.covariance.rhs_fill.Goals as goal
 
 pub loop-i-init : goal.loop-i-init
-loop-i-init c = let e = c.requires.1 in (omega arith, refl, rw e (for_none _ _ _))
+loop-i-init c = rw c.requires.1 (for_none _ _ _)
 
-pub overflow_cast-cs : goal.overflow_cast-cs
-overflow_cast-cs c = omega (arith, c.shared_slice_known-in-loop-i-1.given c.loop-i.i)
-
-pub overflow_cast-gs : goal.overflow_cast-gs
-overflow_cast-gs c = omega (arith, c.shared_slice_known-in-loop-i-2-1.given c.loop-i.i)
-
-pub covary-requires : goal.covary-requires
-covary-requires c =
-    let p = c.requires.0 in
-    let i = c.loop-i.i in
-    let h : i < length c.args.cs.now = omega arith in
-    omega (arith, p.carrier i h, p.symbol i h, p.near i h)
+pub covary-requires-clause-ca_lt_nc : goal.covary-requires-clause-ca_lt_nc
+covary-requires-clause-ca_lt_nc c = near_cell _ _ _ _ _ c.requires.0 c.loop-i.i c.loop-i-test.true
 
 pub loop-i-preserved : goal.loop-i-preserved
 unfolding rhs_at
-loop-i-preserved c = (omega arith, c.loop-i.invariant.1, for_step _ _ _ _ _ _ (omega arith) c.loop-i.invariant.2 (rw c.covary.ensures))
+loop-i-preserved c =
+    let ps = c.args.ps.now in
+    let i = c.loop-i.i in
+    for_step _ _ _ _ _ _ (omega arith) c.loop-i.invariant (rw (c.covary.ensures, carrier_of ps i c.loop-i-test.true, symbol_of ps i c.loop-i-test.true))
 
 pub returns : goal.returns
 unfolding rhs_of
-returns c = for_end _ _ _ _ _ _ (omega arith) (omega arith) c.loop-i.invariant.2
+returns c = for_end _ _ _ _ _ _ (omega (arith, long c.args.ps.now)) (omega (arith, long c.args.ps.now)) c.loop-i.invariant

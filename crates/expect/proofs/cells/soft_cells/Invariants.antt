@@ -1,13 +1,10 @@
-use Prim.Native.Nat.{◌≤◌, ◌-◌, ◌*◌}
+use Prim.Native.Nat.{◌*◌}
 use mathlib.Core.Path.{◌≡◌}
 use mathlib.Core.List.{◌++◌}
-use lib.ListN.{length, drop}
+use lib.ListN.{drop}
 use Rattle.seq.specs.Cat.{cat}
 use Rattle.expect.specs.Expect.{soft_at}
 use Rattle.expect.proofs.cells.soft_cells.Given as goal
 
 abbrev pub invariant-loop-cell : goal.invariant-loop-cell
-invariant-loop-cell l = (l.cell ≤ l.ncell) × ((length l.out ≡ length l.initial.out) × (l.out ≡ cat l.cell (soft_at l.unit l.bps l.sl) ++ drop (l.cell * 3) l.initial.out))
-
-abbrev pub decreases-loop-cell : goal.decreases-loop-cell
-decreases-loop-cell l = l.ncell - l.cell
+invariant-loop-cell l = l.out ≡ cat l.cell (soft_at l.unit.pts l.unit.bps l.sl) ++ drop (l.cell * 3) l.initial.out

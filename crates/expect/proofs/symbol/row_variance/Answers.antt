@@ -1,12 +1,8 @@
 -- `symbol::row_variance` rounds as the source does.
-use native.Mathlib.Omega.{arith}
-use Rattle.ieee.proofs.Floats.{counted}
 use Rattle.expect.specs.Expect.{row_variance}
+use Rattle.expect.proofs.Sums.{row_sum_is}
 use Rattle.expect.proofs.symbol.row_variance.Goals as goal
-
-pub int_to_float-result : goal.int_to_float-result
-int_to_float-result c = counted _ _ (omega arith)
 
 pub returns : goal.returns
 unfolding row_variance
-returns c = rw c.row_sum.ensures
+returns c = rw (c.row_sum.ensures, row_sum_is c.args.dc c.args.soft.now c.args.t)

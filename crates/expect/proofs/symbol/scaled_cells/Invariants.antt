@@ -1,13 +1,10 @@
-use Prim.Native.Nat.{◌≤◌, ◌-◌, ◌*◌}
+use Prim.Native.Nat.{◌*◌}
 use mathlib.Core.Path.{◌≡◌}
 use mathlib.Core.List.{◌++◌}
-use lib.ListN.{length, drop}
+use lib.ListN.{drop}
 use Rattle.seq.specs.Cat.{cat}
 use Rattle.expect.specs.Expect.{scaled_at}
 use Rattle.expect.proofs.symbol.scaled_cells.Given as goal
 
 abbrev pub invariant-loop-j : goal.invariant-loop-j
-invariant-loop-j l = (l.j ≤ l.dc) × ((length l.out ≡ length l.initial.out) × (l.out ≡ cat l.j (scaled_at l.gain l.mv l.row) ++ drop (l.j * 3) l.initial.out))
-
-abbrev pub decreases-loop-j : goal.decreases-loop-j
-decreases-loop-j l = l.dc - l.j
+invariant-loop-j l = l.out ≡ cat l.j (scaled_at l.gain l.mv l.row) ++ drop (l.j * 3) l.initial.out

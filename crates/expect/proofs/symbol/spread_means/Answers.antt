@@ -3,6 +3,4 @@ use Rattle.expect.proofs.Front.{spread_front}
 use Rattle.expect.proofs.symbol.spread_means.Goals as goal
 
 pub returns : goal.returns
-returns c =
-    let b = c.before.before.before.before.before.before.before.before.before.before in
-    rw (c.forward.ensures, c.row_means.ensures, b.requires.0) (spread_front b.args.dc b.args.soft.now b.args.t _)
+returns c = rw (c.forward.ensures, c.row_means.ensures, c.requires.0) (spread_front c.args.sp.now.m c.args.points.now 0 _)

@@ -4,5 +4,4 @@ use Rattle.expect.proofs.symbol.spread_row.Goals as goal
 
 pub returns : goal.returns
 returns c =
-    let b = c.before.before.before.before.before.before.before.before.before.before.before in
-    rw (c.scaled_cells.ensures, c.spread_variance-mv.ensures, c.spread_means.ensures) (row_is b.args.dc b.args.soft.now b.args.t b.args.gain _ b.args.out.now b.requires.3)
+    rw (c.scaled_cells.ensures, c.spread_variance-mv.ensures, c.spread_means.ensures) (row_is c.args.sp.now.m c.args.row.now 0 c.args.gain _ c.args.row.now c.requires.1)

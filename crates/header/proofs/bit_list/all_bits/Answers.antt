@@ -1,14 +1,11 @@
--- `all_bits` meets its contract: the bytes passed are bits.
-use native.Mathlib.Omega.{arith}
-use borrow.Author.Rules.{rules}
-use Rattle.header.proofs.Digits.{scan_on, scan_stop, scan_end}
+-- `all_bits` meets its contract: std's `all`, under the definition's own recursion.
+use Rattle.std.proofs.Common.{◌∙◌, ltb, rules, tests}
+use Rattle.std.proofs.lemmas.Iterator.{YieldsList-from_slice}
+use Rattle.std.proofs.lemmas.Iterator.Search.{all_from_yields_List}
+use Rattle.header.proofs.Digits.{as_list_all}
 use Rattle.header.proofs.bit_list.all_bits.Goals as goal
 
-pub returns-then-bits-i-gt1 : goal.returns-then-bits-i-gt1
-returns-then-bits-i-gt1 c = let l = c.before.before.before in scan_stop l.args.bits.now l.loop-i.i (omega arith) (omega arith) l.loop-i.invariant.1
-
-pub loop-i-preserved : goal.loop-i-preserved
-loop-i-preserved c = let l = c.before.before.before in (search rules, scan_on l.args.bits.now l.loop-i.i (omega arith) (omega arith) l.loop-i.invariant.1)
-
 pub returns : goal.returns
-returns c = scan_end _ c.loop-i.i (omega arith) c.loop-i.invariant.1
+returns c =
+    let bits = c.args.bits.now in
+    all_from_yields_List (λ b. ltb b 2) _ _ c.all.result c.all.ensures.ran (YieldsList-from_slice bits cc) (λ x b q k. search (rules, tests)) ∙ as_list_all bits

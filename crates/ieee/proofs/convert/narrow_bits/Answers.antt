@@ -3,7 +3,6 @@ use mathlib.Core.Path.{◌≡◌, sym, ap, ◌∙◌, subst}
 use Prim.Native.Nat.{ℕ, ◌+◌, ◌-◌, ◌*◌, ◌/◌, ◌%◌, ◌^◌, ◌≤◌, ◌<◌}
 use native.Mathlib.Nat.{add_assoc}
 use native.Mathlib.Omega.{arith}
-use lib.Dec.{lit≤}
 use lib.Ieee.{binary32, of_bits}
 use lib.Ieee.Nearest.{closest}
 use Rattle.ieee.proofs.Narrowing.{kept_most, way_top, way_normal, way_small, way_none}
@@ -11,9 +10,6 @@ use Rattle.ieee.proofs.convert.narrow_bits.Goals as goal
 
 Q-lt : (b : ℕ) → 4503599627370496 + b % 4503599627370496 < 2 ^ 53
 Q-lt b = omega arith
-
-few29 : (b r : ℕ) → r ≡ closest (4503599627370496 + b % 4503599627370496) (2 ^ 29) → r ≤ 16777216
-few29 b r e = subst (λ (x : ℕ). x ≤ 16777216) (sym e) (kept_most (4503599627370496 + b % 4503599627370496) 29 (Q-lt b) (lit≤ tt))
 
 deep : (e : ℕ) → e ≤ 896 → 29 ≤ 926 - e
 deep e h = omega arith
@@ -26,12 +22,6 @@ few b r l e =
 pub returns-then-e-gt1150 : goal.returns-then-e-gt1150
 returns-then-e-gt1150 c = let b = c.args.b in way_top b c.ranges.b.fits c.requires c.if-e-gt1150.true
 
-pub overflow_add-result-then-e-gt896-2 : goal.overflow_add-result-then-e-gt896-2
-overflow_add-result-then-e-gt896-2 c = omega (arith, few29 c.args.b c.shifted.result c.shifted.ensures)
-
-pub overflow_cast-result-then-e-gt896 : goal.overflow_cast-result-then-e-gt896
-overflow_cast-result-then-e-gt896 c = omega (arith, few29 c.args.b c.shifted.result c.shifted.ensures)
-
 pub returns-then-e-gt896 : goal.returns-then-e-gt896
 returns-then-e-gt896 c =
     let st = c.before.before.before in
@@ -40,9 +30,6 @@ returns-then-e-gt896 c =
     ap (λ (r : ℕ). of_bits binary32 (b / 9223372036854775808 * 2147483648 + (e - 897) * 8388608 + r)) c.shifted.ensures
     ∙ ap (λ (r : ℕ). of_bits binary32 r) (add_assoc (b / 9223372036854775808 * 2147483648) ((e - 897) * 8388608) (closest (4503599627370496 + b % 4503599627370496) (2 ^ 29)))
     ∙ way_normal b st.ranges.b.fits c.if-e-gt1150.false c.if-e-gt896.true
-
-pub overflow_add-result-then-e-gt872 : goal.overflow_add-result-then-e-gt872
-overflow_add-result-then-e-gt872 c = omega (arith, few c.args.b c.shifted-then-e-gt872.result c.if-e-gt896.false c.shifted-then-e-gt872.ensures)
 
 pub overflow_cast-result-then-e-gt872 : goal.overflow_cast-result-then-e-gt872
 overflow_cast-result-then-e-gt872 c = omega (arith, few c.args.b c.shifted-then-e-gt872.result c.if-e-gt896.false c.shifted-then-e-gt872.ensures)

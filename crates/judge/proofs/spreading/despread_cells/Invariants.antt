@@ -1,4 +1,4 @@
-use Prim.Native.Nat.{◌≤◌, ◌-◌, ◌*◌}
+use Prim.Native.Nat.{◌*◌}
 use mathlib.Core.List.{◌++◌}
 use mathlib.Core.Path.{◌≡◌}
 use lib.ListN.{length, drop}
@@ -7,8 +7,4 @@ use Rattle.judge.specs.Judge.{answer_of, despread}
 use Rattle.judge.proofs.spreading.despread_cells.Given as goal
 
 abbrev pub invariant-loop-j : goal.invariant-loop-j
-invariant-loop-j l =
-    (l.j ≤ l.dc) × (length l.out ≡ length l.initial.out) × (l.out ≡ cat l.j (despread l.pts l.bps (answer_of l.e l.z)) ++ drop (l.j * l.bps) l.initial.out)
-
-abbrev pub decreases-loop-j : goal.decreases-loop-j
-decreases-loop-j l = l.dc - l.j
+invariant-loop-j l = (length l.out ≡ length l.initial.out) × (l.out ≡ cat l.j (despread l.pts.pts l.pts.bps (answer_of l.e l.z)) ++ drop (l.j * l.bps) l.initial.out)

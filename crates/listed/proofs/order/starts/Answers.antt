@@ -1,17 +1,14 @@
--- `starts` meets its contract. Assumes nothing.
-use native.Mathlib.Omega.{arith}
-use borrow.Author.Rules.{rules}
-use lib.ListN.{length-set}
-use Rattle.seq.specs.Tab.Laws.{tab_none, tab_step, tab_end}
+-- `starts` meets its contract.
+use Rattle.std.proofs.Common.{arith}
+use Rattle.seq.specs.Tab.Laws.{tab_none, tab_step}
+use Rattle.near.proofs.Terms.{tab_whole}
 use Rattle.listed.proofs.order.starts.Goals as goal
 
 pub loop-g-init : goal.loop-g-init
-loop-g-init c = (search rules, search rules, tab_none _ _)
+loop-g-init c = tab_none _ _
 
 pub loop-g-preserved : goal.loop-g-preserved
-loop-g-preserved c =
-    let l = c.loop-g in
-    (search rules, simp length-set l.invariant.1, tab_step _ l.g _ _ _ (omega arith) l.invariant.2 c.below.ensures)
+loop-g-preserved c = tab_step _ _ _ _ _ (omega arith) c.loop-g.invariant c.below.ensures
 
 pub returns : goal.returns
-returns c = tab_end _ c.loop-g.g _ _ _ (search rules) (search rules) c.loop-g.invariant.2
+returns c = tab_whole _ c.loop-g.g _ _ (omega arith) (omega arith) c.loop-g.invariant

@@ -1,10 +1,6 @@
 -- `found_at` meets its contract: a known value, a header's data cell, or a data cell by its number. Assumes nothing.
-use Prim.Native.Nat.{◌<◌}
 use mathlib.Core.Path.{sym, ◌∙◌}
 use native.Mathlib.Omega.{arith}
-use Rattle.layout.specs.Carriers.{cell_index}
-use Rattle.load.specs.Find.{cell_of}
-use Rattle.load.specs.Fit.{ncell}
 use Rattle.load.proofs.Counted.{past_first, ncell_small, known_wins, found_early, found_free, cell_below}
 use Rattle.load.proofs.found.found_at.Goals as goal
 
@@ -18,18 +14,24 @@ returns-then-g-m c =
     let a = c.args in
     sym (found_early a.s a.sigma.now a.cells.now a.expected.now a.c a.g (sym c.is_pilot.ensures ∙ c.if-is_pilot.false) c.if-g-m.true)
 
-pub overflow_mul-cell : goal.overflow_mul-cell
-overflow_mul-cell c = omega (arith, (let h : let a = c.args in cell_of a.s a.g (cell_index a.s.map a.g a.c) < ncell a.s = let a = c.args in cell_below a.s a.sigma.now a.cells.now a.expected.now c.requires.0 a.g c.if-g-m.false a.c c.requires.1 (sym c.is_pilot.ensures ∙ c.if-is_pilot.false) c.requires.2 in h), (ncell_small c.args.s c.args.sigma.now c.args.cells.now c.args.expected.now c.requires.0))
-
 pub cell_index-requires : goal.cell_index-requires
 cell_index-requires c =
-    (c.requires.0.map, past_first c.args.s.map c.args.c c.args.g (sym c.is_pilot.ensures ∙ c.if-is_pilot.false), c.requires.1, (sym c.is_pilot.ensures ∙ c.if-is_pilot.false))
+    let free = sym c.is_pilot.ensures ∙ c.if-is_pilot.false in
+    (c.requires.0.map, past_first c.args.s.map c.args.c c.args.g free, c.requires.1, free)
 
 pub overflow_add-cell : goal.overflow_add-cell
-overflow_add-cell c = omega (arith, (let h : let a = c.args in cell_of a.s a.g (cell_index a.s.map a.g a.c) < ncell a.s = let a = c.args in cell_below a.s a.sigma.now a.cells.now a.expected.now c.requires.0 a.g c.if-g-m.false a.c c.requires.1 (sym c.is_pilot.ensures ∙ c.if-is_pilot.false) c.requires.2 in h), (ncell_small c.args.s c.args.sigma.now c.args.cells.now c.args.expected.now c.requires.0), c.cell_index.ensures)
+overflow_add-cell c =
+    let a = c.args in
+    let free = sym c.is_pilot.ensures ∙ c.if-is_pilot.false in
+    let below = cell_below a.s a.sigma.now a.cells.now a.expected.now c.requires.0 a.g c.if-g-m.false a.c c.requires.1 free c.requires.2 in
+    omega (arith, below, ncell_small a.s a.sigma.now a.cells.now a.expected.now c.requires.0, c.cell_index.ensures)
 
 pub soft_at-requires : goal.soft_at-requires
-soft_at-requires c = omega (arith, (let h : let a = c.args in cell_of a.s a.g (cell_index a.s.map a.g a.c) < ncell a.s = let a = c.args in cell_below a.s a.sigma.now a.cells.now a.expected.now c.requires.0 a.g c.if-g-m.false a.c c.requires.1 (sym c.is_pilot.ensures ∙ c.if-is_pilot.false) c.requires.2 in h), c.cell_index.ensures)
+soft_at-requires c =
+    let a = c.args in
+    let free = sym c.is_pilot.ensures ∙ c.if-is_pilot.false in
+    let below = cell_below a.s a.sigma.now a.cells.now a.expected.now c.requires.0 a.g c.if-g-m.false a.c c.requires.1 free c.requires.2 in
+    omega (arith, below, c.cell_index.ensures)
 
 pub returns : goal.returns
 returns c =

@@ -1,21 +1,32 @@
 -- `sum_pilots` meets its contract: each turn adds a pilot.
+use Rattle.std.proofs.Common.{◌≡◌, length, arith}
+use Rattle.seq.specs.Loop.Laws.{for_none, for_step, for_end}
+use Rattle.seq.specs.Tab.Laws.{length_tab}
+use Rattle.load.specs.Pilots.{listed, pilot_at}
+use Rattle.est.specs.declared.estimator.Estimator.{Estimator}
+use Rattle.model.specs.Score.{turn, summed}
 use Rattle.model.proofs.Strides.{turn_within}
-use Rattle.model.proofs.Trials.{turned, summed_up}
-use Rattle.std.proofs.Common.{arith}
-use Rattle.seq.specs.Loop.Laws.{for_none, for_step}
 use Rattle.model.proofs.trial.sum_pilots.Goals as goal
 
+counted : (e : Estimator) → length (listed e.pilots) ≡ length e.pilots.c.now
+counted e = length_tab (pilot_at e.pilots.c.now e.pilots.g.now e.pilots.f.now) (length e.pilots.c.now)
+
+pub turns-j-end-requires : goal.turns-j-end-requires
+turns-j-end-requires c = omega (arith, c.len-np.ensures, counted c.args.e.now, c.args.e.now.on_grid.small)
+
 pub loop-j-init : goal.loop-j-init
-loop-j-init c = (omega arith, c.stride-s.ensures, c.turns-n.ensures, for_none _ _ _)
+loop-j-init c = (rw (← c.len-np.ensures) c.stride-s.ensures, rw (← c.len-np.ensures) c.turns-j-end.ensures, omega arith, for_none _ _ _)
 
 pub overflow_mul-j : goal.overflow_mul-j
-overflow_mul-j c = let i = c.loop-j.invariant in omega (arith, turn_within _ _ _ c.loop-j.j i.1 i.2 (omega arith), c.requires.0.loaded.small)
+overflow_mul-j c = let i = c.loop-j.invariant in omega (arith, turn_within _ _ _ c.loop-j.j i.0 i.1 (omega arith), counted c.args.e.now, c.args.e.now.on_grid.small)
 
 pub add_pilot-t-requires : goal.add_pilot-t-requires
-add_pilot-t-requires c = let i = c.loop-j.invariant in let p = c.requires in (p.0, p.1, p.2, turn_within _ _ _ _ i.1 i.2 (omega arith))
+add_pilot-t-requires c = let i = c.loop-j.invariant in omega (arith, turn_within _ _ _ c.loop-j.j i.0 i.1 (omega arith), counted c.args.e.now)
 
 pub loop-j-preserved : goal.loop-j-preserved
-loop-j-preserved c = let i = c.loop-j.invariant in let a = c.args in (omega arith, i.1, i.2, for_step _ _ _ _ _ _ (omega arith) i.3 (turned a.w a.pc.now a.pg.now a.pf.now a.start.now a.u a.p_h a.rf.now a.rt.now _ _ i.1 i.2 c.loop-j.j c.loop-j.t _ c.add_pilot-t.ensures))
+unfolding turn
+loop-j-preserved c = let i = c.loop-j.invariant in (i.0, i.1, omega arith, for_step _ _ _ _ _ _ (omega arith) i.3 (rw (← i.0) c.add_pilot-t.ensures))
 
 pub returns : goal.returns
-returns c = let i = c.loop-j.invariant in let a = c.args in summed_up a.w a.pc.now a.pg.now a.pf.now a.start.now a.u a.p_h a.rf.now a.rt.now _ _ i.1 i.2 _ _ (omega arith) (omega arith) i.3
+unfolding summed
+returns c = let i = c.loop-j.invariant in rw (← i.1) (for_end _ _ _ _ _ _ (omega arith) (omega arith) i.3)

@@ -5,6 +5,3 @@ use Rattle.near.proofs.ordered.make_room.Given as goal
 
 abbrev pub invariant-loop-j : goal.invariant-loop-j
 invariant-loop-j l = (l.j ≤ l.m) × Moved l.initial.a l.m l.a l.j × ((i : ℕ) → l.j ≤ i → i < l.m → l.x < get_or l.initial.a i 0)
-
-abbrev pub decreases-loop-j : goal.decreases-loop-j
-decreases-loop-j l = l.j

@@ -1,12 +1,7 @@
 -- `on_circle` asks sin and cos for an angle that they take.
-use native.Mathlib.Omega.{arith}
 use Rattle.points.specs.Constellation.{angle, circle_point}
-use Rattle.ieee.proofs.Floats.{counted}
 use Rattle.points.proofs.Angles.{angle_in_turns}
 use Rattle.points.proofs.constellation.on_circle.Goals as goal
-
-pub int_to_float-a : goal.int_to_float-a
-int_to_float-a c = counted _ _ (omega arith)
 
 pub cos-requires : goal.cos-requires
 unfolding angle

@@ -1,4 +1,3 @@
-use Prim.Native.Nat.{◌≤◌, ◌-◌}
 use mathlib.Core.Path.{◌≡◌}
 use Rattle.seq.specs.Loop.{for}
 use Rattle.points.specs.Table.{blank}
@@ -6,7 +5,4 @@ use Rattle.points.specs.Constellation.{psk8_turn}
 use Rattle.points.proofs.constellation.psk8.Given as goal
 
 abbrev pub invariant-loop-m : goal.invariant-loop-m
-invariant-loop-m l = (l.m ≤ 8) × (l.pts ≡ for 0 l.m psk8_turn blank)
-
-abbrev pub decreases-loop-m : goal.decreases-loop-m
-decreases-loop-m l = 8 - l.m
+invariant-loop-m l = l.pts ≡ for 0 l.m psk8_turn blank

@@ -1,4 +1,3 @@
-use Prim.Native.Nat.{◌≤◌, ◌-◌}
 use mathlib.Core.Path.{◌≡◌}
 use Rattle.seq.specs.Loop.{for}
 use Rattle.points.specs.Table.{blank}
@@ -6,7 +5,4 @@ use Rattle.points.specs.Constellation.{qam_row}
 use Rattle.points.proofs.constellation.qam.Given as goal
 
 abbrev pub invariant-loop-i : goal.invariant-loop-i
-invariant-loop-i l = (l.i ≤ l.m) × (l.pts ≡ for 0 l.i (qam_row l.b) blank)
-
-abbrev pub decreases-loop-i : goal.decreases-loop-i
-decreases-loop-i l = l.m - l.i
+invariant-loop-i l = l.pts ≡ for 0 l.i (qam_row l.b) blank

@@ -13,7 +13,7 @@ pub level-re-requires : goal.level-re-requires
 level-re-requires c = omega (arith, at_most_8 c.args.b c.requires.0)
 
 pub loop-q-init : goal.loop-q-init
-loop-q-init c = (search rules, for_none _ 0 _)
+loop-q-init c = for_none _ 0 _
 
 pub level-requires : goal.level-requires
 level-requires c = omega (arith, at_most_8 c.args.b c.requires.0)
@@ -22,12 +22,10 @@ pub loop-q-preserved : goal.loop-q-preserved
 unfolding qam_turn
 loop-q-preserved c =
     let at = c.before.before.before.before.before.before in
-    let d = at.before in (
-      search rules,
-      for_step _ 0 _ _ _ _ (search rules) at.loop-q.invariant.1
-          (rw (c.put.ensures, c.new.ensures, c.level.ensures, c.label.ensures.0, d.level-re.ensures, d.scale-k.ensures, d.count-m.ensures)),
-    )
+    let d = at.before in
+    for_step _ 0 _ _ _ _ (search rules) at.loop-q.invariant
+    (rw (c.put.ensures, c.new.ensures, c.level.ensures, c.label.ensures.0, d.level-re.ensures, d.scale-k.ensures, d.count-m.ensures.exact))
 
 pub returns : goal.returns
 unfolding qam_row
-returns c = rw (← c.count-m.ensures) (for_end _ 0 _ _ _ _ (search rules) (search rules) c.loop-q.invariant.1)
+returns c = rw (← c.count-m.ensures.exact) (for_end _ 0 _ _ _ _ (search rules) (search rules) c.loop-q.invariant)

@@ -1,4 +1,3 @@
-use Prim.Native.Nat.{◌≤◌, ◌-◌}
 use mathlib.Core.Path.{◌≡◌}
 use Rattle.seq.specs.Loop.{for}
 use Rattle.points.specs.Table.{blank}
@@ -6,7 +5,4 @@ use Rattle.points.specs.Constellation.{qpsk_turn}
 use Rattle.points.proofs.constellation.qpsk.Given as goal
 
 abbrev pub invariant-loop-label : goal.invariant-loop-label
-invariant-loop-label l = (l.label ≤ 4) × (l.pts ≡ for 0 l.label qpsk_turn blank)
-
-abbrev pub decreases-loop-label : goal.decreases-loop-label
-decreases-loop-label l = 4 - l.label
+invariant-loop-label l = l.pts ≡ for 0 l.label qpsk_turn blank

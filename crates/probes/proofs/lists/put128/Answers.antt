@@ -1,11 +1,7 @@
 -- `probes::put128` copies a whole table.
-use mathlib.Core.Path.{ap, ◌∙◌}
-use mathlib.Core.List.{List, ◌++◌}
-use lib.ListN.{drop}
-use lib.Ieee.{Float, nan}
-use Rattle.seq.specs.Tab.Laws.{tab-itself}
+use mathlib.Core.Path.{sym, ◌∙◌}
+use Rattle.std.proofs.lemmas.List.{length-take-le}
 use Rattle.probes.proofs.lists.put128.Goals as goal
 
-pub returns : goal.returns
-returns c =
-    c.copy.ensures ∙ ap (λ (z : List Float). z ++ drop 128 c.args.out.now) (tab-itself 128 nan c.args.v.now c.requires.1)
+pub copy_from_slice-requires : goal.copy_from_slice-requires
+copy_from_slice-requires c = length-take-le 128 c.args.out.now c.requires.0 ∙ sym c.requires.1

@@ -1,6 +1,7 @@
 -- `plan_of` meets its contract.
 use mathlib.Core.Path.{refl}
 use Rattle.layout.proofs.Fits.{layout_fits}
+use Rattle.points.proofs.Laws.{points_laws}
 use Rattle.refine.proofs.settings.plan_of.Goals as goal
 
 pub ng-ng-requires : goal.ng-ng-requires
@@ -16,8 +17,9 @@ pub returns : goal.returns
 returns c =
     rw (
       c.held_k.ensures.same,
-      c.bits_a_point.ensures,
       c.mean_energy.ensures,
+      c.points-p.ensures,
+      (points_laws c.args.s.constellation).bits,
       c.new.ensures,
       c.gain-gain.ensures,
       c.data_carriers-dc.ensures,

@@ -2,7 +2,7 @@
 use Prim.Native.Nat.{◌*◌}
 use mathlib.Core.Path.{sym, ap}
 use lib.Seq.{length-take-le}
-use Rattle.refine.specs.Refine.{burst}
+use Rattle.refine.specs.Received.{burst_of}
 use Rattle.refine.proofs.Ready.{exact_fit}
 use Rattle.refine.proofs.Joined.{refined}
 use Rattle.refine.proofs.whole.refine.Goals as goal
@@ -16,11 +16,11 @@ slice_bounds-refine_exact-end-4 c = sym (length-take-le _ c.args.channel.now (rw
 pub refine_exact-requires : goal.refine_exact-requires
 refine_exact-requires c =
     let a = c.args in
-    exact_fit (burst a.s a.grid.now a.sigma.now a.cells.now) a.answer.now a.channel.now a.wf.now a.wu.now c.requires _ _ c.nbits_of-n.ensures (ap (λ x. 3 * x) c.ncell_of-c.ensures.0)
+    exact_fit (burst_of a.b.now) a.answer.now a.channel.now a.wf.now a.wu.now c.requires _ _ c.nbits_of-n.ensures (ap (λ x. 3 * x) c.ncell_of-c.ensures.0)
 
 pub returns : goal.returns
 returns c =
     let k = c.refine_exact in
     let a = c.args in
-    refined (burst a.s a.grid.now a.sigma.now a.cells.now) a.prior.now _ a.answer.now _ a.channel.now _ _ _
+    refined (burst_of a.b.now) a.prior.now _ a.answer.now _ a.channel.now _ _ _
     c.nbits_of-n.ensures (ap (λ x. 3 * x) c.ncell_of-c.ensures.0) k.ensures

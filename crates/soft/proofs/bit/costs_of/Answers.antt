@@ -2,7 +2,7 @@
 use lib.Ieee.{of_bits}
 use Rattle.soft.specs.Soft.{cost_of}
 use Rattle.elementary.proofs.Laws.{exp_laws}
-use Rattle.soft.proofs.Costs.{neg_above, below, zero_above, one_above, zero_below, one_below}
+use Rattle.soft.proofs.Costs.{neg_above, zero_above, one_above, zero_below, one_below}
 use Rattle.soft.proofs.bit.costs_of.Goals as goal
 
 pub exp-requires : goal.exp-requires
@@ -19,10 +19,6 @@ returns-then-lam c =
     let lam = c.args.lam in
     let e = c.if-lam.true in
     rw (c.ln_1p-t.ensures, c.exp.ensures) (zero_above lam e, one_above lam e)
-
-pub exp-requires-then-lam-2 : goal.exp-requires-then-lam-2
-unfolding of_bits
-exp-requires-then-lam-2 c = below c.args.lam c.if-lam-2.true
 
 pub ln_1p-t-requires-then-lam-2 : goal.ln_1p-t-requires-then-lam-2
 unfolding of_bits

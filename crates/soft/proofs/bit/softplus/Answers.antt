@@ -17,10 +17,6 @@ pub returns-then-x : goal.returns-then-x
 unfolding of_bits
 returns-then-x c = rw (c.ln_1p.ensures, c.exp.ensures) (sym (softplus_above c.args.x c.if-x.true))
 
-pub exp-requires-2 : goal.exp-requires-2
-unfolding of_bits
-exp-requires-2 c = not_above c.args.x c.if-x.false
-
 pub ln_1p-requires-2 : goal.ln_1p-requires-2
 unfolding of_bits
 ln_1p-requires-2 c = rw c.exp-2.ensures (exp_laws.within _)

@@ -7,10 +7,11 @@ use Rattle.soft.proofs.Prefix.{length_page, two_more, written}
 use Rattle.soft.proofs.labels.split.Goals as goal
 
 pub loop-i-init : goal.loop-i-init
-loop-i-init c = (search rules, rw c.page-out.ensures (tab_none _ page))
+unfolding page
+loop-i-init c = tab_none _ page
 
 pub loop-i-preserved : goal.loop-i-preserved
-loop-i-preserved c = (search rules, two_more _ _ _ c.loop-i.i page _ (omega (arith, length_page)) c.loop-i.invariant.1)
+loop-i-preserved c = two_more _ _ _ c.loop-i.i page _ (omega (arith, length_page)) c.loop-i.invariant
 
 pub returns : goal.returns
-returns c = written _ _ _ c.loop-i.i _ page _ (search rules) (search rules) c.loop-i.invariant.1
+returns c = written _ _ _ c.loop-i.i _ page _ (search rules) (search rules) c.loop-i.invariant

@@ -1,4 +1,4 @@
-use Prim.Native.Nat.{◌*◌, ◌-◌, ◌≤◌}
+use Prim.Native.Nat.{◌*◌}
 use mathlib.Core.Path.{◌≡◌}
 use mathlib.Core.List.{◌++◌}
 use lib.ListN.{drop}
@@ -7,7 +7,4 @@ use Rattle.soft.specs.Tree.{page, child}
 use Rattle.soft.proofs.labels.split.Given as goal
 
 abbrev pub invariant-loop-i : goal.invariant-loop-i
-invariant-loop-i l = (l.i ≤ l.n) × (l.out ≡ tab (2 * l.i) (child l.up l.zero l.one) ++ drop (2 * l.i) page)
-
-abbrev pub decreases-loop-i : goal.decreases-loop-i
-decreases-loop-i l = l.n - l.i
+invariant-loop-i l = l.out ≡ tab (2 * l.i) (child l.up l.c.zero l.c.one) ++ drop (2 * l.i) page

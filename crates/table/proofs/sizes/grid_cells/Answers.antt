@@ -1,5 +1,4 @@
 -- `grid_cells` meets its contract.
-use mathlib.Core.Path.{refl}
 use native.Mathlib.Omega.{arith}
 use Rattle.layout.proofs.Fits.{layout_fits}
 use Rattle.table.proofs.Bounded.{small}
@@ -10,6 +9,3 @@ ng-requires c = (rw c.layout-l.ensures (layout_fits _).sizes, c.requires.most)
 
 pub overflow_mul-result : goal.overflow_mul-result
 overflow_mul-result c = rw (c.ng.ensures, c.layout-l.ensures) (omega (arith, (small _ c.requires).grid))
-
-pub returns : goal.returns
-returns c = rw (c.ng.ensures, c.layout-l.ensures) refl

@@ -1,13 +1,17 @@
--- `Header::accepted` meets its contract.
-use mathlib.Core.Path.{refl}
-use borrow.Author.Tests.{eq-eqb, ne_eqb}
-use Rattle.header.specs.Fields.{accepted}
+-- `Header::accepted` meets its contract: equality with `PLAIN` is the mode's test.
+use Rattle.std.proofs.Common.{◌≡◌, Bool, true, false, ◌∙◌, ap, refl, rules}
+use Rattle.std.proofs.Math.Bool.{beq, not, ◌&&◌}
+use Rattle.std.specs.Prelude.{nat_eq}
+use Rattle.header.specs.Fields.{is_plain, accepted}
 use Rattle.header.proofs.fields.Header.accepted.Goals as goal
 
-pub returns-then-self-eq0 : goal.returns-then-self-eq0
-unfolding accepted
-returns-then-self-eq0 c = rw (eq-eqb _ 0 c.if-self-eq0.true) refl
+is_false : (b : Bool) → beq b false ≡ not b
+is_false true = refl
+is_false false = refl
 
-pub returns : goal.returns
+pub returns-then-not-self : goal.returns-then-not-self
 unfolding accepted
-returns c = rw (ne_eqb _ 0 c.if-self-eq0.false) refl
+returns-then-not-self c =
+    let m = c.args.self.mode in
+    let plain : c.eq-plain.result ≡ is_plain m = c.eq-plain.ensures ∙ ap (λ (t : Bool). t && nat_eq m.gain_code 0) (is_false m.spread) in
+    search rules

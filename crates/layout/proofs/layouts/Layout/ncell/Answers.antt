@@ -8,6 +8,3 @@ pub overflow_mul-result : goal.overflow_mul-result
 overflow_mul-result c =
     let l : data_carriers_of c.args.self c.args.sparse ≤ 109 = omega (arith, carriers_le c.args.self c.args.sparse, c.requires.0.few) in
     rw c.data_carriers.ensures (omega (arith, mul-le-mul c.requires.1 l))
-
-pub returns : goal.returns
-returns c = rw c.data_carriers.ensures

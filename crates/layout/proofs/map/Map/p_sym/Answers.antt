@@ -1,7 +1,6 @@
 -- `Map::p_sym` meets its contract: the counts are small enough to be f32. Assumes nothing.
 use Rattle.std.proofs.Common.{◌≤◌, arith}
 use lib.Ieee.{binary32}
-use Rattle.layout.specs.Known.{p_sym}
 use Rattle.layout.proofs.Fits.{pilots_le}
 use Rattle.ieee.proofs.Floats.{counted}
 use Rattle.layout.proofs.map.Map.p_sym.Goals as goal
@@ -10,15 +9,5 @@ use Rattle.layout.proofs.map.Map.p_sym.Goals.{After-struct_known-1}
 some : (c : After-struct_known-1) → c.pilots-pilots.result ≤ c.args.self.nc
 some c = rw c.pilots-pilots.ensures (pilots_le _ _ c.requires.robust)
 
-pub overflow_sub-data : goal.overflow_sub-data
-overflow_sub-data c = some c
-
-pub int_to_float-result : goal.int_to_float-result
-int_to_float-result c = counted binary32 _ (omega (arith, some c.before.before, c.requires.few))
-
 pub int_to_float-result-2 : goal.int_to_float-result-2
 int_to_float-result-2 c = counted binary32 _ (omega (arith, some c.before.before, c.requires.few))
-
-pub returns : goal.returns
-unfolding p_sym
-returns c = rw c.pilots-pilots.ensures

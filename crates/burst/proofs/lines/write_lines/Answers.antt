@@ -1,0 +1,32 @@
+use Rattle.std.proofs.Common.{◌≡◌, ℕ, List, arith, refl}
+use Rattle.std.specs.declared.option.Option.{Option}
+use Rattle.std.specs.Prelude.{unwrap_or}
+use Rattle.wire.specs.Shape.{bits_in, bits_of}
+use lib.ListN.{length-replicate}
+use Rattle.cause.specs.Causes.{cause_number, number_of}
+use Rattle.wire.proofs.Rows.{some_number, bits_or_none}
+use Rattle.burst.proofs.Accepted.{few_bits}
+use Rattle.burst.proofs.Appended.{same}
+use Rattle.burst.proofs.Printing.{print_refused, print_answer}
+use Rattle.burst.proofs.lines.write_lines.Goals as goal
+
+-- the bits that a record has, where none stands for 0
+bits : (rec : List ℕ) (o : Option ℕ) (n : ℕ) → n ≡ unwrap_or o 0 → o ≡ bits_in rec → n ≡ bits_of rec
+bits rec o n e h = rw (e, h) (bits_or_none rec)
+
+pub returns-in-Err : goal.returns-in-Err
+returns-in-Err g c =
+    let q = c.refine_record in
+    let r = print_refused c.args.rec.now (cause_number c.in-Err.cause) _ q.new.out (length-replicate {A = ℕ} 16354 0) (rw c.in-Err.is at q.ensures) (some_number c.in-Err.cause) in
+    same _ _ _ _ _ c.write_refused.ensures (rw c.from.ensures r)
+
+pub write_answer-requires : goal.write_answer-requires
+write_answer-requires g c =
+    omega (arith, bits c.args.rec.now c.record_bits.result c.unwrap_or-bits.result c.unwrap_or-bits.ensures c.record_bits.ensures, few_bits c.args.rec.now, c.refine_record.auto.out, length-replicate {A = ℕ} 16354 0)
+
+pub returns : goal.returns
+returns g c =
+    let q = c.refine_record in
+    let n = c.unwrap_or-bits in
+    let e = bits c.args.rec.now c.record_bits.result n.result n.ensures c.record_bits.ensures in
+    same _ _ _ _ _ c.write_answer.ensures (print_answer c.args.rec.now (number_of q.result) _ q.new.out (length-replicate {A = ℕ} 16354 0) q.ensures n.result e (rw c.in_default.is refl))

@@ -1,7 +1,0 @@
-use mathlib.Core.Path.{refl}
-use Rattle.dsp.specs.Arithmetic.{negᶜ}
-use Rattle.dsp.proofs.Complex.neg.Goals as goal
-
-pub returns : goal.returns
-unfolding negᶜ
-returns c = refl

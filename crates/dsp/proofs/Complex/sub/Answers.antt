@@ -1,7 +1,0 @@
-use mathlib.Core.Path.{refl}
-use Rattle.dsp.specs.Arithmetic.{◌-ᶜ◌}
-use Rattle.dsp.proofs.Complex.sub.Goals as goal
-
-pub returns : goal.returns
-unfolding ◌-ᶜ◌
-returns c = refl

@@ -1,0 +1,7 @@
+use mathlib.Core.Path.{refl}
+use Rattle.dsp.specs.Arithmetic.{◌-ᶜ◌}
+use Rattle.dsp.proofs.operators.ComplexSub.sub.Goals as goal
+
+pub returns : goal.returns
+unfolding ◌-ᶜ◌
+returns c = refl

@@ -1,7 +1,0 @@
--- `equalizer::add` is the definition's lines on the sums.
-use Rattle.equalize.specs.Fde.{added}
-use Rattle.equalize.proofs.equalizer.add.Goals as goal
-
-pub returns : goal.returns
-unfolding added
-returns c = rw (c.norm_sqr.ensures, c.passed-wg.ensures)

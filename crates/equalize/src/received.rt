@@ -1,0 +1,25 @@
+// A spread symbol as it was received.
+ghost use Rattle.std.specs.Prelude.{◌≡◌, ◌+◌, ◌*◌, ◌≤◌, length};
+ghost use Rattle.equalize.specs.Filter.{channel_of};
+
+use dsp::Complex;
+
+// Cells y, their channel estimates h, their variances v of noise and estimation error, and the gain of the data.
+#[derive(Clone, Copy)]
+pub struct Received<'a> {
+    pub y: &'a [f32],
+    pub h: &'a [f32],
+    pub v: &'a [f32],
+    pub gain: f32,
+}
+
+impl Received<'_> {
+    // g: the channel of carrier j, with the data gain on top.
+    #[tactic(auto, unfolding(crate::specs::Filter::channel_of))]
+    pub(crate) fn channel(&self, j: usize) -> Complex
+        requires { 2 * j + 2 ≤ length self.now.h.now }
+        ensures { result ≡ channel_of self.now.h.now self.now.gain j }
+    {
+        Complex::at(self.h, j).scale(self.gain)
+    }
+}

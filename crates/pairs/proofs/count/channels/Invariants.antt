@@ -1,5 +1,0 @@
-use Rattle.std.proofs.Common.{◌≤◌}
-use Rattle.pairs.proofs.count.channels.Given as goal
-
-abbrev pub invariant-loop-i : goal.invariant-loop-i
-invariant-loop-i l = record { equal : l.n.equal ≤ l.i; differ : l.n.differ ≤ l.i; others : l.n.others ≤ l.i }

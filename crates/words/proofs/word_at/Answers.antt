@@ -1,8 +1,0 @@
--- `word_at` meets its contract.
-use native.Mathlib.Omega.{arith}
-use Rattle.words.specs.Bytes.{word_at}
-use Rattle.words.proofs.word_at.Goals as goal
-
-pub returns : goal.returns
-unfolding word_at
-returns c = omega arith
