@@ -4,12 +4,12 @@ use crate::oracle::burst::Burst;
 use crate::oracle::phy::Constellation;
 use crate::oracle::phy::expected::{scaled, sent};
 use crate::oracle::phy::slots::to_slots;
-use crate::probes::pilots::{Lists, Settings};
+use crate::probes::pilots::{Lists, LoadSettings};
 use crate::rng::Rng;
 
 /// What the probes read of a burst beside its own lists.
 pub struct Asked {
-    pub settings: Settings,
+    pub settings: LoadSettings,
     pub expected: Vec<f32>,
 }
 
@@ -19,7 +19,7 @@ impl Asked {
         let mode = b.header().mode;
         let dc = b.shape().data_carriers(b.header().pilots());
         let (xm, xv) = sent(&to_slots(&b.prior, b.bits()), cons, mode, dc);
-        let settings = Settings {
+        let settings = LoadSettings {
             layout: b.layout as u32,
             sparse: b.sparse,
             gain: b.pilot_gain,

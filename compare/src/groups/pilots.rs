@@ -6,7 +6,7 @@ use crate::oracle::phy::Constellation;
 use crate::oracle::phy::est::Estimator;
 use crate::oracle::phy::expected::{scaled, sent};
 use crate::oracle::phy::slots::to_slots;
-use crate::probes::pilots::{Lists, Settings, load};
+use crate::probes::pilots::{Lists, LoadSettings, load};
 use crate::report::Tally;
 use crate::rng::Rng;
 
@@ -55,7 +55,7 @@ fn one(t: &mut Tally, b: &Burst) {
     let dc = b.shape().data_carriers(b.header().pilots());
     let (xm, xv) = sent(&to_slots(&b.prior, b.bits()), cons, mode, dc);
     let expected: Vec<f32> = xm.iter().zip(&xv).flat_map(|(x, &v)| [x.re, x.im, v]).collect();
-    let settings = Settings {
+    let settings = LoadSettings {
         layout: b.layout as u32,
         sparse: b.sparse,
         gain: b.pilot_gain,
@@ -73,7 +73,7 @@ fn one(t: &mut Tally, b: &Burst) {
 }
 
 /// A list that is one short is refused, and nothing is written.
-fn refusals(t: &mut Tally, b: &Burst, s: &Settings, l: &Lists, w: &mut [u32], pf: &mut [f32]) {
+fn refusals(t: &mut Tally, b: &Burst, s: &LoadSettings, l: &Lists, w: &mut [u32], pf: &mut [f32]) {
     let at = [b.layout as u64];
     let (few, less) = (w.len() - 1, pf.len() - 1);
     t.same("w short", &at, load(s, l, &mut w[..few], pf), 0);

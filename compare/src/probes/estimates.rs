@@ -1,10 +1,10 @@
 //! Estimates of the channel, and the choice of its model, from a burst that is loaded first.
 
-use super::pilots::{Lists, Settings};
+use super::pilots::{Lists, LoadSettings};
 
 unsafe extern "C" {
     fn probe_estimates(
-        settings: Settings,
+        settings: LoadSettings,
         asked: Asked,
         grid: *const f32,
         grid_len: usize,
@@ -24,7 +24,7 @@ unsafe extern "C" {
         out_len: usize,
     ) -> usize;
     fn probe_models(
-        settings: Settings,
+        settings: LoadSettings,
         k: usize,
         grid: *const f32,
         grid_len: usize,
@@ -79,7 +79,7 @@ impl Work {
 }
 
 /// Three numbers for each cell of `at`; how many pilots there are, 0 when refused.
-pub fn estimates(s: &Settings, l: &Lists, a: Asked, at: &[u32], work: &mut Work, out: &mut [f32]) -> usize {
+pub fn estimates(s: &LoadSettings, l: &Lists, a: Asked, at: &[u32], work: &mut Work, out: &mut [f32]) -> usize {
     let Work { w, pf } = work;
     // SAFETY: every pointer is good for the length passed with it during the call.
     unsafe {
@@ -106,7 +106,7 @@ pub fn estimates(s: &Settings, l: &Lists, a: Asked, at: &[u32], work: &mut Work,
     }
 }
 
-pub fn models(s: &Settings, l: &Lists, k: usize, work: &mut Work) -> Selected {
+pub fn models(s: &LoadSettings, l: &Lists, k: usize, work: &mut Work) -> Selected {
     let Work { w, pf } = work;
     // SAFETY: every pointer is good for its length during the call.
     unsafe {

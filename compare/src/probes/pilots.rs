@@ -3,7 +3,7 @@
 /// What stands in front of the lists.
 #[repr(C)]
 #[derive(Clone, Copy)]
-pub struct Settings {
+pub struct LoadSettings {
     pub layout: u32,
     pub sparse: bool,
     pub gain: f32,
@@ -23,7 +23,7 @@ pub struct Lists<'a> {
 
 unsafe extern "C" {
     fn probe_load(
-        settings: Settings,
+        settings: LoadSettings,
         grid: *const f32,
         grid_len: usize,
         sigma: *const f32,
@@ -40,7 +40,7 @@ unsafe extern "C" {
 }
 
 /// How many pilots there are, 0 when refused.
-pub fn load(s: &Settings, l: &Lists, w: &mut [u32], pf: &mut [f32]) -> usize {
+pub fn load(s: &LoadSettings, l: &Lists, w: &mut [u32], pf: &mut [f32]) -> usize {
     // SAFETY: every pointer is good for the length passed with it during the call.
     unsafe {
         probe_load(

@@ -1,4 +1,5 @@
-// phy: channel_power and the single estimate.
+// phy: channel_power and the single estimate. Settings, grid and both variances come apart, and the work area as two
+// lists: the C interface.
 ghost use Rattle.refine.specs.Refine.{burst};
 ghost use Rattle.asides.specs.Told.{power_numbers, single_numbers, ProbedPower, ProbedSingle};
 

@@ -1,4 +1,4 @@
-// beside: decide.
+// beside: decide. A constellation is its code, and a complex number two numbers: the C interface.
 ghost use Rattle.dsp.specs.Arithmetic.{complex};
 ghost use Rattle.asides.specs.Told.{decision_numbers, ProbedDecision};
 

@@ -1,4 +1,4 @@
-// beside: fde.
+// beside: fde. The lists come apart: the C interface.
 ghost use Rattle.asides.specs.Told.{equalization_numbers, ProbedEqualization};
 
 use crate::told::{Told, Values, tell};

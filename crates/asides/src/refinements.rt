@@ -1,4 +1,5 @@
-// phy: the whole refinement.
+// phy: the whole refinement. Settings, grid and both variances come apart, and the work area as two lists: the C
+// interface.
 ghost use Rattle.std.specs.Prelude.{◌≡◌};
 ghost use Rattle.refine.specs.Refine.{burst};
 ghost use Rattle.asides.specs.Told.{report_of, ProbedRefinement};
@@ -7,7 +8,7 @@ use cause::Cause;
 use refine::{BurstGrid, Refined, Settings};
 
 // 0, both indices of the model, how many likelihoods are not a number, and the scale; or the cause's number and zeros.
-// The number stands beside them, since the C interface needs it.
+// The number stands beside them, and the indices are numbers, since the C interface needs it.
 #[repr(C)]
 #[derive(Clone, Copy)]
 pub struct Report {
@@ -39,6 +40,7 @@ fn report_of(answer: Result<Refined, Cause>) -> Report
     }
 }
 
+// A C function of its own beside `probe_single_estimate`, which also only hands on what it is lent.
 #[unsafe(no_mangle)]
 pub extern "C" fn probe_refine(
     s: Settings,

@@ -13,7 +13,7 @@ use Rattle.equalize.specs.declared.filter.Equalized.{Equalized}
 use Rattle.equalize.specs.Answer.{Room}
 use Rattle.equalize.specs.Answer as core
 use Rattle.equalize.specs.Fde.{fde_of}
-use Rattle.scan.proofs.Tests.{neither}
+use Rattle.std.proofs.lemmas.Bool.{or_parts}
 use Rattle.std.specs.Prelude.{Ok}
 use Rattle.beside.specs.Equalizations.{bad_lengths, bad_numbers, refusal_of, equalized, Equalizing}
 
@@ -27,10 +27,10 @@ pub record Fits (y h m z : ℕ) : Type 0 where
 pub fits : (y h m z : ℕ) → bad_lengths y h m z ≡ false → Fits y h m z
 unfolding bad_lengths
 fits y h m z e =
-    let a = neither (eqb m 0) _ e in
-    let b = neither (ltb 109 m) _ a.1 in
-    let c = neither (not (eqb y (2 * m))) _ b.1 in
-    let d = neither (not (eqb h (2 * m))) (not (eqb z (2 * m))) c.1 in
+    let a = or_parts (eqb m 0) _ e in
+    let b = or_parts (ltb 109 m) _ a.1 in
+    let c = or_parts (not (eqb y (2 * m))) _ b.1 in
+    let d = or_parts (not (eqb h (2 * m))) (not (eqb z (2 * m))) c.1 in
     let n : m ≡ 0 → ⊥ = eqb-false m 0 a.0 in
     record {
       some = omega arith;

@@ -3,7 +3,7 @@ ghost use Rattle.std.specs.Prelude.{◌≡◌, length};
 ghost use Rattle.beside.specs.Equalizations.{bad_lengths, bad_numbers, Equalizing};
 
 use cause::Cause;
-use equalize::{Equalized, Received};
+use equalize::{Equalized, ReceivedSymbol};
 use spread::Spreader;
 
 // `room` is how many numbers z has.
@@ -38,6 +38,6 @@ pub fn fde(y: &[f32], h: &[f32], v: &[f32], gain: f32, z: &mut [f32]) -> Result<
     if bad_numbers(y, h, v, gain) {
         return Err(Cause::Numbers);
     }
-    let r = Received { y, h, v, gain };
+    let r = ReceivedSymbol { y, h, v, gain };
     Ok(equalize::fde(&Spreader::new(v.len()), &r, z))
 }

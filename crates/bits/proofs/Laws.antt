@@ -4,8 +4,8 @@ use native.Mathlib.Nat.{mod-add-mod}
 use lib.ListN.{length-replicate}
 use lib.Ieee.{Float}
 use Rattle.seq.specs.Fill.{fill, EachOnce}
-use Rattle.seq.specs.Fill.Laws.{length_fill, fill_at, filled}
-use Rattle.seq.specs.Tab.Laws.{length_tab, get_d_tab}
+use Rattle.seq.specs.Fill.Laws.{length_fill, fill_at, filled, fill_none, fill_step, fill_end}
+use Rattle.seq.specs.Tab.Laws.{length_tab, get_d_tab, tab_none, tab_step, tab_end}
 use Rattle.bits.specs.Mix.{signed}
 use Rattle.bits.specs.Step.{step_of}
 use Rattle.bits.specs.Slots.{longest, slot_of, nought, prior_bit, slot_priors, bit_of, bit_order, SlotsOnce}
@@ -77,3 +77,8 @@ module _ (n : ℕ) (h : 0 < n) (hn : n ≤ longest) where
         let b' = simp (length-take, length-drop, length_slot_priors) at b in
         let at : (r : List Float) → get_or (take w (drop from r)) s nought ≡ get_or r (from + s) nought = λ r. get_or-take w (drop from r) s nought (omega arith) ∙ get_or-drop from r s nought in
         at (slot_priors n p) ∙ slot_same (from + s) nought (omega arith) (λ i v e. same i v (omega arith) (omega arith)) ∙ sym (at (slot_priors n q)))
+
+-- ---- what the check uses of the two loops
+pub ruleset filling = (fill_none, fill_step, fill_end, slots_filled)
+
+pub ruleset tabbing = (tab_none, tab_step, tab_end)

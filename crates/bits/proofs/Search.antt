@@ -52,3 +52,6 @@ module _ (n : ℕ) (hn : n ≤ 2 ^ 52) where
 pub first_coprime : FirstCoprime
 unfolding FirstCoprime
 first_coprime n h hn = (step_found n hn h).0
+
+-- what the check uses of the search
+pub ruleset searching = (step_small, step_from, step_good, passed, stopped)

@@ -24,7 +24,8 @@ first_from (suc k) n a = cond (gcd a n == 1) a (first_from k n (suc a))
 abbrev pub golden : Float
 golden = from_bits binary64 0x3fe3_c6ef_372f_ed03
 
--- Rust's `round` of an x that is not negative, half away from 0: ⌊x + 1/2⌋, where a finite x is the fraction num x / den x
+-- Rust's `round` of an x that is not negative, half away from 0: ⌊x + 1/2⌋, where a finite x is the fraction
+-- num x / den x
 unfoldable pub round_half : Float → ℕ
 round_half x = (2 * num x + den x) / (2 * den x)
 

@@ -1,4 +1,6 @@
 // A burst's n bits and the n slots that they sit at: the first and the last loop of refine.rs `refine`.
+// n, with its bound, is a parameter of each function: a burst's path makes one call of each, and a struct of n and its
+// step would be made for that call alone. The lists that are lent may be longer than n.
 ghost use Rattle.std.specs.Prelude.{◌≡◌, ◌<◌, ◌≤◌, ◌++◌, length, drop, slice_index_or};
 ghost use Rattle.bits.specs.Step.{step_of};
 ghost use Rattle.bits.specs.Slots.{longest, slot_of, nought, slot_priors, bit_order};
@@ -7,6 +9,7 @@ use crate::mix::sign;
 use crate::step::interleave_step;
 
 // The slot of bit i, with the step a at hand. Every walk over the bits takes its slots from here.
+#[tactic(auto, using(crate::proofs::Search::step_good), unfolding(crate::specs::Slots::slot_of))]
 fn slot_by(a: usize, n: usize, i: usize) -> usize
     requires { (n ≤ longest) × (a ≡ step_of n) × (i < n) }
     ensures { (result ≡ slot_of n i) × (result < n) }
@@ -30,24 +33,29 @@ pub fn value_at(s: &[f32], i: usize) -> f32
 }
 
 // The n priors, scrambled, each at its slot; what `out` has past them stays.
+#[tactic(auto, using(crate::proofs::Laws::filling), unfolding(crate::specs::Slots::prior_bit))]
 pub fn to_slots(prior: &[f32], n: usize, out: &mut [f32])
     requires { (0 < n) × (n ≤ longest) × (n ≤ length out.old) }
     ensures { out.new ≡ slot_priors n prior.now ++ drop n out.old }
 {
     let a = interleave_step(n);
+    // i is the bit's number: its slot and its sign come of it.
     for i in 0..n {
         let s = slot_by(a, n, i);
         out[s] = sign(i, value_at(prior, i));
     }
 }
 
-// The n numbers in bit order, unscrambled; what `out` has past them stays. Its walk is not `to_slots`'s: that writes at the slot and reads at
-// the bit, this the other way about, and one function for both would ask for each place by a closure of its own.
+// The n numbers in bit order, unscrambled; what `out` has past them stays. Its walk is not `to_slots`'s: that writes at
+// the slot and reads at the bit, this the other way about, and one function for both would ask for each place by a
+// closure of its own.
+#[tactic(auto, using(crate::proofs::Laws::tabbing), unfolding(crate::specs::Slots::bit_of, crate::specs::Slots::bit_order))]
 pub fn from_slots(slots: &[f32], n: usize, out: &mut [f32])
     requires { (0 < n) × (n ≤ longest) × (n ≤ length slots.now) × (n ≤ length out.old) }
     ensures { out.new ≡ bit_order n slots.now ++ drop n out.old }
 {
     let a = interleave_step(n);
+    // i is the bit's number: its slot and its sign come of it.
     for i in 0..n {
         let s = slot_by(a, n, i);
         out[i] = sign(i, slots[s]);

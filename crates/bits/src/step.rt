@@ -9,6 +9,7 @@ fn gcd(a: usize, b: usize) -> usize
 {
     let mut x = a;
     let mut y = b;
+    // Euclid's steps end by this test, and no range is gone over.
     while y != 0 {
         let t = x % y;
         x = y;
@@ -28,6 +29,7 @@ fn start(n: usize) -> usize
 }
 
 // frame.rs `interleave_step`: the first number from 0.61803398875 n up that is coprime to n.
+#[tactic(auto, using(crate::proofs::Search::searching))]
 pub fn interleave_step(n: usize) -> usize
     requires { n ≤ 2 ^ 52 }
     ensures { result ≡ step_of n }

@@ -2,6 +2,7 @@
 pub mod Formatted
 pub mod Appended
 pub mod Reading
+pub mod Fours
 pub mod Accepted
 pub mod Printing
 pub mod AsPrinted

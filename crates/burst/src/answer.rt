@@ -1,5 +1,5 @@
 // Document 01's lines of an answer's bytes, or of a refusal.
-ghost use Rattle.std.specs.Prelude.{◌≡◌, ◌+◌, ◌*◌, ◌≤◌, length, OnOk};
+ghost use Rattle.std.specs.Prelude.{◌≡◌, ◌+◌, ◌*◌, ◌/◌, ◌≤◌, length, OnOk};
 ghost use Rattle.std.specs.Io.KnownBytes.{Appends};
 ghost use Rattle.seq.specs.Cat.{cat};
 ghost use Rattle.words.specs.Bytes.{word_at};
@@ -25,13 +25,13 @@ fn write_line<W: Write>(x: u32, to: &mut W) -> io::Result<()>
     writeln!(to, "{:08X}", shown(x))
 }
 
-// The n likelihoods past the answer's first ten bytes.
-fn write_lines<W: Write>(answer: &[u8], n: usize, to: &mut W) -> io::Result<()>
-    requires { 10 + 4 * n ≤ length answer.now }
-    ensures { OnOk result (Appends (W.contents to.old) (W.contents to.new) (cat n (λ i. line_of (word_at answer.now (10 + 4 * i))))) }
+// Likelihoods, four bytes each.
+fn write_lines<W: Write>(numbers: &[u8], to: &mut W) -> io::Result<()>
+    ensures { OnOk result (Appends (W.contents to.old) (W.contents to.new) (cat (length numbers.now / 4) (λ i. line_of (word_at numbers.now (4 * i))))) }
 {
-    for i in 0..n {
-        write_line(words::word_at(answer, 10 + 4 * i), to)?;
+    let (fours, _) = numbers.as_chunks::<4>();
+    for bytes in fours {
+        write_line(words::word_at(bytes, 0), to)?;
     }
     Ok(())
 }
@@ -59,7 +59,7 @@ pub fn write_refused<W: Write>(q: u32, to: &mut W) -> io::Result<()>
     writeln!(to, "refused {q}")
 }
 
-// The report in the answer's first ten bytes, then its n likelihoods.
+// The report in the answer's first ten bytes, then its n likelihoods. The bytes have room for the longest answer.
 pub fn write_answer<W: Write>(answer: &[u8], n: usize, to: &mut W) -> io::Result<()>
     requires { 10 + 4 * n ≤ length answer.now }
     ensures { OnOk result (Appends (W.contents to.old) (W.contents to.new) (answer_lines answer.now n)) }
@@ -67,5 +67,5 @@ pub fn write_answer<W: Write>(answer: &[u8], n: usize, to: &mut W) -> io::Result
     let scale = words::word_at(answer, 2);
     let spoilt = words::word_at(answer, 6);
     write_heading(n, answer[0], answer[1], scale, spoilt, to)?;
-    write_lines(answer, n, to)
+    write_lines(&answer[10..10 + 4 * n], to)
 }

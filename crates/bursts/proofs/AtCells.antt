@@ -1,7 +1,8 @@
 -- The estimates of `probe_estimates`: a cell's own pilot, the cells past the grid, and the model's tables.
-use Rattle.std.proofs.Common.{◌≡◌, ℕ, ◌+◌, ◌*◌, ◌/◌, ◌%◌, ◌≤◌, ◌<◌, List, ◌++◌, eqb, length, get_or, drop, sym, ap, arith}
+use Rattle.std.proofs.Common.{◌≡◌, ℕ, ◌*◌, ◌/◌, ◌%◌, ◌≤◌, ◌<◌, List, ◌++◌, length, get_or, drop}
 use borrow.Author.Tests.{lt-ltb, le-ltb, lt-leb, le-leb}
 use lib.Ieee.{Float}
+use Rattle.ieee.proofs.Floats.{quotient_nan}
 use Rattle.seq.specs.Tab.Laws.{get_d_tab}
 use Rattle.load.specs.Load.{nothing}
 use Rattle.load.specs.Pilots.{pilot_at, listed}
@@ -11,22 +12,19 @@ use Rattle.est.specs.declared.combine.Estimate.{Estimate}
 use Rattle.est.specs.declared.estimator.Estimator.{Estimator}
 use Rattle.judge.specs.Cells.{index_in}
 use Rattle.judge.specs.Symbol.{InOrder}
-use Rattle.judge.proofs.Finding.{find_same}
+use Rattle.judge.proofs.Own.{index_by_carriers}
+use Rattle.judge.proofs.Estimated.{starts}
 use Rattle.bursts.specs.Estimating.{outside, own_of, estimate_at, estimate_with, put_by}
 
 module _ (e : Estimator) where
   module _ (g : ℕ) (in-ng : g < e.window.ng) where
     pub in_order : InOrder e.pilots g
-    in_order =
-        let h = e.on_grid in
-        (omega (arith, h.long_start), h.order g (g + 1) (omega arith) (omega arith), omega (arith, h.order (g + 1) e.window.ng (omega arith) (omega arith), h.whole))
+    in_order = starts e.on_grid g in-ng
 
     -- by the carriers alone
     own_found : (c : ℕ) → index_in (λ i. get_or e.pilots.c.now i 0) e.pilots.start.now c g ≡ own_of (listed e.pilots) e.pilots.start.now c g
     unfolding own_of
-    own_found c =
-        let ps = e.pilots in
-        find_same _ _ _ _ (λ k b. ap (λ (p : Pilot). eqb p.c c) (sym (get_d_tab (pilot_at ps.c.now ps.g.now ps.f.now) (length ps.c.now) k nothing (omega (arith, in_order)))))
+    own_found c = index_by_carriers e.pilots.c.now e.pilots.g.now e.pilots.f.now e.pilots.start.now e.window.nc e.window.ng e.on_grid c g in-ng
 
   module _ (j : ℕ) where
     pub past_grid : e.window.ng ≤ j / e.window.nc → outside ≡ estimate_with e j
@@ -47,3 +45,6 @@ module _ (at : List ℕ) (new old : List Float) where
   pub put : (out : List Float) → length at ≤ length old / 3 → out ≡ new ++ drop (length at * 3) old → out ≡ put_by at new old
   unfolding put_by
   put out h e = rw (le-leb (length at) (length old / 3) h) e
+
+-- for `grind`, of one estimate
+pub ruleset cells = (in_order, past_grid, in_grid, quotient_nan)

@@ -26,7 +26,7 @@ use Rattle.model.specs.Values.{FitModels}
 use Rattle.model.specs.Score.{Fit}
 use Rattle.model.specs.declared.trial.Setting.{Setting}
 use Rattle.model.proofs.Models.{models_fit}
-use Rattle.probes.specs.declared.pilots.Settings.{Settings}
+use Rattle.probes.specs.declared.pilots.LoadSettings.{LoadSettings}
 use Rattle.probes.specs.Loading.{source_for, Lent, Loading}
 use Rattle.bursts.specs.declared.estimates.Asked.{Asked}
 use Rattle.bursts.specs.declared.models.Selected.{Selected}
@@ -34,7 +34,7 @@ use Rattle.bursts.specs.Work.{Set, pilots_in, starts_in, pilots_at, starts_at, I
 use Rattle.bursts.specs.Estimating.{estimates_by, put_by, Estimating}
 use Rattle.bursts.specs.Modelling.{nothing, selected_of, Modelling}
 
-pub settled : {t : Settings} {k : ℕ} {l : Layout} {ng hk : ℕ} → l ≡ layout_of t.layout → ng ≡ ng_of l t.nsym → Held k hk
+pub settled : {t : LoadSettings} {k : ℕ} {l : Layout} {ng hk : ℕ} → l ≡ layout_of t.layout → ng ≡ ng_of l t.nsym → Held k hk
     → Set t k (record { l = l; sparse = t.sparse; ng = ng; k = hk; p_h = t.p_h })
 settled el en h = record { is = rw (h.same, en, el) refl; some = h.some; most = h.most }
 
@@ -46,7 +46,7 @@ few_places number nsym h =
     let b = bounds.layout number false in
     le_trans (mul-le-mul {n₁ = ng_of (layout_of number) nsym} {m₁ = (layout_of number).nc} {n₂ = 1084} {m₂ = 109} (omega (arith, h, b.pre_high)) b.nc_high) (lit≤ tt)
 
-module _ {t : Settings} {grid sigma cells expected : List Float} {w₀ : List ℕ} {pf₀ : List Float} {w : List ℕ} {pf : List Float} {np : ℕ} (h : Loading t grid sigma cells expected w₀ pf₀ w pf np) where
+module _ {t : LoadSettings} {grid sigma cells expected : List Float} {w₀ : List ℕ} {pf₀ : List Float} {w : List ℕ} {pf : List Float} {np : ℕ} (h : Loading t grid sigma cells expected w₀ pf₀ w pf np) where
   abbrev ps : List Pilot
   ps = pilots_in (source_for t) grid sigma cells expected
 

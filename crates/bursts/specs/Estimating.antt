@@ -8,16 +8,16 @@ use Rattle.load.specs.Load.{nothing}
 use Rattle.load.specs.Pilots.{listed}
 use Rattle.near.specs.declared.query.Query.{Query}
 use Rattle.est.specs.Estimate.{estimate_without}
-use Rattle.est.specs.Model.{rf_of, rt_of, scales_of}
 use Rattle.est.specs.declared.combine.Estimate.{Estimate}
 use Rattle.est.specs.declared.estimator.Estimator.{Estimator}
 use Rattle.est.specs.declared.model.Scales.{Scales}
-use Rattle.model.specs.Values.{numerology_of, window_of, fd_value, tm_value}
 use Rattle.model.specs.declared.trial.Setting.{Setting}
+use Rattle.model.specs.declared.select.Model.{Model}
 use Rattle.judge.specs.Cells.{index_in}
 use Rattle.judge.specs.Symbol.{fitted_in}
 use Rattle.judge.specs.declared.estimates.Fitted.{Fitted}
-use Rattle.probes.specs.declared.pilots.Settings.{Settings}
+use Rattle.refine.specs.Refine.{fitted_of, carrier_table, symbol_table}
+use Rattle.probes.specs.declared.pilots.LoadSettings.{LoadSettings}
 use Rattle.probes.specs.Loading.{source_for, Loading}
 use Rattle.bursts.specs.declared.estimates.Asked.{Asked}
 use Rattle.bursts.specs.Work.{setting_for, pilots_in, starts_in}
@@ -56,31 +56,19 @@ module _ (e : Estimator) where
   abbrev pub estimates_with : List ℕ → List Float
   estimates_with at = estimates_at e.p_h (fitted_in e) (listed e.pilots) e.pilots.start.now e.rf.now e.rt.now at
 
-module _ (s : Setting) (a : Asked) where
-  abbrev fd : Float
-  fd = fd_value s.l s.sparse a.fd
+-- by its indices and its factor
+abbrev pub model_of : Asked → Model
+model_of a = record { fd = a.fd; tm = a.tm; scale = a.scale }
 
-  abbrev tm : Float
-  tm = tm_value s.l a.tm
-
-  -- after set_model(fd, tm)
-  unfoldable pub fitted_of : Fitted
-  fitted_of = record { w = window_of s.l s.ng s.k; u = scales_of (numerology_of s.l) fd tm; scale = a.scale }
-
-  unfoldable pub carrier_table : List Float
-  carrier_table = rf_of (numerology_of s.l) tm
-
-  unfoldable pub symbol_table : List Float
-  symbol_table = rt_of (numerology_of s.l) fd
-
-  unfoldable pub estimates_by : List Pilot → List ℕ → List ℕ → List Float
-  estimates_by ps start = estimates_at s.p_h fitted_of ps start carrier_table symbol_table
+-- after set_model(fd, tm)
+unfoldable pub estimates_by : Setting → Asked → List Pilot → List ℕ → List ℕ → List Float
+estimates_by s a ps start = estimates_at s.p_h (fitted_of s (model_of a)) ps start (carrier_table s (model_of a)) (symbol_table s (model_of a))
 
 -- three numbers a cell in front of out, which is as it was where it has no room for them
 unfoldable pub put_by : (at : List ℕ) (new out : List Float) → List Float
 put_by at new out = cond (leb (length at) (length out / 3)) (new ++ drop (length at * 3) out) out
 
 -- r is what `probe_load` answers. Where it loads nothing, out is as it was
-pub record Estimating (t : Settings) (a : Asked) (at : List ℕ) (grid sigma cells expected : List Float) (w₀ : List ℕ) (pf₀ out₀ : List Float) (w : List ℕ) (pf out : List Float) (r : ℕ) : Type 0 where
+pub record Estimating (t : LoadSettings) (a : Asked) (at : List ℕ) (grid sigma cells expected : List Float) (w₀ : List ℕ) (pf₀ out₀ : List Float) (w : List ℕ) (pf out : List Float) (r : ℕ) : Type 0 where
   pub loading : Loading t grid sigma cells expected w₀ pf₀ w pf r
   pub written : out ≡ cond (eqb r 0) out₀ (put_by at (estimates_by (setting_for t a.k) a (pilots_in (source_for t) grid sigma cells expected) (starts_in (source_for t) grid sigma cells expected) at) out₀)

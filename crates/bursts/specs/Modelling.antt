@@ -4,7 +4,7 @@ use Rattle.ieee.specs.Num.{zero64, zero32}
 use Rattle.load.specs.declared.pilot.Pilot.{Pilot}
 use Rattle.model.specs.Select.{residuals, select_model}
 use Rattle.model.specs.declared.trial.Setting.{Setting}
-use Rattle.probes.specs.declared.pilots.Settings.{Settings}
+use Rattle.probes.specs.declared.pilots.LoadSettings.{LoadSettings}
 use Rattle.probes.specs.Loading.{source_for, Loading}
 use Rattle.bursts.specs.declared.models.Selected.{Selected}
 use Rattle.bursts.specs.Work.{setting_for, pilots_in, starts_in}
@@ -23,6 +23,6 @@ selected_of np s ps start =
     }
 
 -- np is what `probe_load` answers
-pub record Modelling (t : Settings) (k : ℕ) (grid sigma cells expected : List Float) (w₀ : List ℕ) (pf₀ : List Float) (w : List ℕ) (pf : List Float) (r : Selected) : Type 0 where
+pub record Modelling (t : LoadSettings) (k : ℕ) (grid sigma cells expected : List Float) (w₀ : List ℕ) (pf₀ : List Float) (w : List ℕ) (pf : List Float) (r : Selected) : Type 0 where
   pub loading : Loading t grid sigma cells expected w₀ pf₀ w pf r.np
   pub selected : r ≡ cond (eqb r.np 0) nothing (selected_of r.np (setting_for t k) (pilots_in (source_for t) grid sigma cells expected) (starts_in (source_for t) grid sigma cells expected))

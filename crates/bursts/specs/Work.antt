@@ -11,13 +11,13 @@ use Rattle.load.specs.Pilots.{pilots, Loaded}
 use Rattle.est.specs.Estimate.{held_k}
 use Rattle.model.specs.Values.{FitModels}
 use Rattle.model.specs.declared.trial.Setting.{Setting}
-use Rattle.probes.specs.declared.pilots.Settings.{Settings}
+use Rattle.probes.specs.declared.pilots.LoadSettings.{LoadSettings}
 
 -- with k held
-abbrev pub setting_for : Settings → ℕ → Setting
+abbrev pub setting_for : LoadSettings → ℕ → Setting
 setting_for t k = record { l = layout_of t.layout; sparse = t.sparse; ng = ng_of (layout_of t.layout) t.nsym; k = held_k k; p_h = t.p_h }
 
-pub record Set (t : Settings) (k : ℕ) (s : Setting) : Type 0 where
+pub record Set (t : LoadSettings) (k : ℕ) (s : Setting) : Type 0 where
   pub is : s ≡ setting_for t k
   pub some : 1 ≤ s.k
   pub most : s.k ≤ 40

@@ -1,5 +1,5 @@
 // est: the estimates at the cells asked for, each without its own pilot, from a burst that is loaded first.
-ghost use Rattle.std.specs.Prelude.{◌≡◌, ◌++◌, ◌+◌, ◌*◌, ◌<◌, ◌≤◌, length, drop};
+ghost use Rattle.std.specs.Prelude.{◌≡◌, ◌++◌, ◌*◌, ◌<◌, ◌≤◌, length, drop};
 ghost use Rattle.load.specs.Pilots.{listed};
 ghost use Rattle.model.specs.Values.{FitModels};
 ghost use Rattle.model.specs.Score.{Fit};
@@ -12,9 +12,9 @@ use est::{Estimate, Estimator};
 use judge::pilot_index;
 use load::Pilots;
 use model::Setting;
-use probes::{Settings, probe_load, put3};
+use probes::{LoadSettings, probe_load, put};
 
-// Pilots an estimate may use, the model by its indices, and the factor on its errors.
+// Pilots an estimate may use, the model by its indices, which C passes as numbers, and the factor on its errors.
 #[repr(C)]
 #[derive(Clone, Copy)]
 pub struct Asked {
@@ -25,6 +25,7 @@ pub struct Asked {
 }
 
 // At cell j of the grid, in order of symbol, then carrier.
+#[tactic(auto, using(crate::proofs::AtCells::cells))]
 fn estimate_at(e: &Estimator, j: usize) -> Estimate
     requires { 0 < e.now.window.nc }
     ensures { result ≡ estimate_with e.now j }
@@ -38,7 +39,7 @@ fn estimate_at(e: &Estimator, j: usize) -> Estimate
             mse: 0.0 / 0.0,
         };
     }
-    let own = pilot_index(&e.pilots, c, g);
+    let own = pilot_index(e.pilots.c, e.pilots.start, c, g);
     e.estimate_without(c, g, own)
 }
 
@@ -48,33 +49,24 @@ fn estimates_at(e: &Estimator, at: &[u32], out: &mut [f32])
 {
     for (i, cell) in at.iter().enumerate() {
         let x = estimate_at(e, *cell as usize);
-        put3(&mut out[i * 3..], x.h, x.mse);
+        put(&mut out[i * 3..], &[x.h.re, x.h.im, x.mse]);
     }
 }
 
-// Under the model that is asked for, whose correlations go to rf and rt.
-fn estimates_by(
-    s: Setting,
-    a: Asked,
-    ps: &Pilots,
-    rf: &mut [f64],
-    rt: &mut [f64],
-    at: &[u32],
-    out: &mut [f32],
-)
+// Under the model that is asked for.
+fn estimates_by(s: Setting, a: Asked, ps: &Pilots, at: &[u32], out: &mut [f32])
     requires fits { Fit s ps.now × FitModels s.l × (0 < s.l.nc) × (s.l.gw ≤ 12) }
-    requires tables { (length rf.old ≡ 2 * s.l.nc + 1) × (length rt.old ≡ 4 * s.l.gw + 1) }
     requires room { length at.now * 3 ≤ length out.old }
     ensures { out.new ≡ estimates_by s a (listed ps.now) ps.now.start.now at.now ++ drop (length at.now * 3) out.old }
 {
     let fd = model::fd_value(s.l, s.sparse, a.fd);
     let tm = model::tm_value(s.l, a.tm);
-    let scales = est::set_model(model::numerology(s.l), fd, tm, rf, rt);
+    let t = est::set_model(model::numerology(s.l), fd, tm);
     let e = Estimator {
         pilots: *ps,
-        rf,
-        rt,
-        scales,
+        rf: t.rf(),
+        rt: t.rt(),
+        scales: t.scales,
         window: model::window(s.l, s.ng, s.k),
         p_h: s.p_h,
         mse_scale: a.scale,
@@ -82,7 +74,8 @@ fn estimates_by(
     estimates_at(&e, at, out);
 }
 
-// From the np pilots of the work lists.
+// From the np pilots of the work lists, which C lends and which have room for more.
+#[tactic(auto, using(crate::proofs::AtCells::no_room, crate::proofs::AtCells::put))]
 fn estimates_in(s: Setting, a: Asked, np: usize, w: &[u32], pf: &[f32], at: &[u32], out: &mut [f32])
     requires { InWork s np w.now pf.now }
     ensures { out.new ≡ put_by at.now (estimates_by s a (pilots_at s np w.now pf.now) (starts_at s w.now) at.now) out.old }
@@ -91,18 +84,13 @@ fn estimates_in(s: Setting, a: Asked, np: usize, w: &[u32], pf: &[f32], at: &[u3
         return;
     }
     let ps = pilots_in(s, np, w, pf);
-    let l = s.l;
-    // Room for the most carriers, 109, and the most symbols, 12 to each side.
-    let mut rf = [0f64; 219];
-    let mut rt = [0f64; 49];
-    let rf = &mut rf[..2 * l.nc + 1];
-    let rt = &mut rt[..4 * l.gw + 1];
-    estimates_by(s, a, &ps, rf, rt, at, out);
+    estimates_by(s, a, &ps, at, out);
 }
 
+#[tactic(auto, using(crate::proofs::Loaded::estimates_none, crate::proofs::Loaded::few_symbols))]
 #[unsafe(no_mangle)]
 pub extern "C" fn probe_estimates(
-    s: Settings,
+    s: LoadSettings,
     a: Asked,
     grid: &[f32],
     sigma: &[f32],

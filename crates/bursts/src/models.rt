@@ -10,9 +10,9 @@ ghost use Rattle.bursts.specs.Modelling.{selected_of, Modelling};
 use crate::work::{pilots_in, setting_of};
 use load::Pilots;
 use model::Setting;
-use probes::{Settings, probe_load};
+use probes::{LoadSettings, probe_load};
 
-// How many pilots there are, 0 when refused; then all is 0.
+// How many pilots there are, 0 when refused, since C has no Option; then all is 0. A model is its two indices.
 #[repr(C)]
 #[derive(Clone, Copy)]
 pub struct Selected {
@@ -33,6 +33,7 @@ fn residual(ps: &Pilots, s: Setting, t: u32) -> f64
     model::score(ps, s, fd, tm).r
 }
 
+#[tactic(auto, using(crate::proofs::Rests::turns), unfolding(model::specs::Select::residuals))]
 fn residuals(ps: &Pilots, s: Setting) -> [f64; 9]
     requires { Fit s ps.now × FitModels s.l }
     ensures { result ≡ residuals s (listed ps.now) ps.now.start.now }
@@ -44,7 +45,8 @@ fn residuals(ps: &Pilots, s: Setting) -> [f64; 9]
     rs
 }
 
-// From the np pilots of the work lists.
+// From the np pilots of the work lists, which C lends and which have room for more.
+#[tactic(auto, using(crate::proofs::Loaded::fit_in))]
 fn select(s: Setting, np: usize, w: &[u32], pf: &[f32]) -> Selected
     requires { InWork s np w.now pf.now }
     ensures { result ≡ selected_of np s (pilots_at s np w.now pf.now) (starts_at s w.now) }
@@ -60,9 +62,10 @@ fn select(s: Setting, np: usize, w: &[u32], pf: &[f32]) -> Selected
     }
 }
 
+#[tactic(auto, using(crate::proofs::Loaded::models_none, crate::proofs::Loaded::few_symbols))]
 #[unsafe(no_mangle)]
 pub extern "C" fn probe_models(
-    s: Settings,
+    s: LoadSettings,
     k: usize,
     grid: &[f32],
     sigma: &[f32],

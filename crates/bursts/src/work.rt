@@ -5,10 +5,11 @@ ghost use Rattle.bursts.specs.Work.{Set, pilots_at, starts_at, InWork};
 
 use load::Pilots;
 use model::Setting;
-use probes::Settings;
+use probes::LoadSettings;
 
 // With k held.
-pub fn setting_of(s: Settings, k: usize) -> Setting
+#[tactic(auto, using(layout::proofs::Fits::layout_fits, crate::proofs::Loaded::settled))]
+pub fn setting_of(s: LoadSettings, k: usize) -> Setting
     requires { s.nsym ≤ 1023 }
     ensures { Set s k result }
 {
@@ -30,11 +31,5 @@ pub fn pilots_in<'a>(s: Setting, np: usize, w: &'a [u32], pf: &'a [f32]) -> Pilo
     ensures on_grid { OnGrid result s.l.nc s.ng }
 {
     let l = s.l;
-    let n = s.ng * l.nc;
-    Pilots {
-        c: &w[..np],
-        g: &w[n..n + np],
-        f: &pf[..3 * np],
-        start: &w[2 * n..2 * n + s.ng + 1],
-    }
+    Pilots::of_lists(w, pf, s.ng * l.nc, s.ng, np)
 }

@@ -1,4 +1,5 @@
--- Of the pilots in the work lists those near the cell may be asked of, and they give the estimate by all. Assumes nothing.
+-- Of the pilots in the work lists those near the cell may be asked of, and they give the estimate by all. Assumes
+-- nothing.
 use Prim.Native.Nat.{ℕ, ◌+◌, ◌-◌, ◌*◌, ◌≤◌, ◌<◌, min}
 use mathlib.Core.Path.{◌≡◌, refl, sym, ◌∙◌}
 use mathlib.Core.List.{List, ◌++◌}
@@ -9,9 +10,12 @@ use lib.Ieee.{Float, nan}
 use Rattle.seq.specs.Tab.{tab}
 use Rattle.seq.specs.Tab.Laws.{length_tab, tab_only}
 use Rattle.load.specs.declared.pilot.Pilot.{Pilot}
-use Rattle.load.specs.Pilots.{pilot_at, pilots, Loaded}
+use Rattle.load.specs.declared.pilots.Pilots.{Pilots}
+use Rattle.load.specs.Pilots.{pilot_at, pilots, Loaded, listed, OnGrid}
+use Rattle.load.specs.Work.{Cut}
 use Rattle.load.specs.Fit.{places}
-use Rattle.near.specs.Search.{none, pilot}
+use Rattle.load.specs.Load.{nothing}
+use Rattle.near.specs.Search.{pilot}
 use Rattle.near.specs.Own.{InOrder}
 use Rattle.near.specs.declared.query.Query.{Query}
 use Rattle.near.specs.declared.query.Window.{Window}
@@ -58,7 +62,7 @@ module _ (s : Setting) (pc pg : List ℕ) (pf : List Float) (start : List ℕ) (
 
   near_are : near_of s ps start g ≡ tab (hi - lo) (λ (i : ℕ). pilot ps (lo + i))
   unfolding near_of
-  near_are = tab_only (λ (i : ℕ). pilot ps (lo + i)) (hi - lo) none _ (long_inner q w ps start ordered hg) (λ i u. inner_at q w ps start ordered hg i u)
+  near_are = tab_only (λ (i : ℕ). pilot ps (lo + i)) (hi - lo) nothing _ (long_inner q w ps start ordered hg) (λ i u. inner_at q w ps start ordered hg i u)
 
   -- at the code's numbers
   module _ (a b m n : ℕ) (ea : a ≡ g - s.l.gw) (eb : b ≡ min (g + s.l.gw + 1) s.ng) (em : m ≡ get_or start a 0) (en : n ≡ get_or start b 0) where
@@ -74,27 +78,22 @@ module _ (s : Setting) (pc pg : List ℕ) (pf : List Float) (start : List ℕ) (
         let these : tab (n - m) f ≡ near_of s ps start g = rw (em, en, ea, eb) (sym near_are) in
         front ∙ these
 
+-- as they are lent
+pub near_spans : (ps : Pilots) (s : Setting) (g : ℕ) → OnGrid ps s.l.nc s.ng → Rows s.l.nc s.ng ps.start.now → s.l.gw ≤ 12 → g < s.ng
+    → let m = get_or ps.start.now (g - s.l.gw) 0 in
+    let n = get_or ps.start.now (min (g + s.l.gw + 1) s.ng) 0 in
+    (m ≤ n) × (n ≤ length ps.c.now) × (n - m ≤ 2725)
+near_spans ps s g l r h hg = spans s ps.c.now ps.g.now ps.f.now ps.start.now l g hg _ _ _ _ refl refl refl refl r h
+
 -- ---- of the parts of the work lists that are lent on
 
 module _ (p : Plan) (np : ℕ) (wf : List Float) (wu : List ℕ) (n : ℕ) (en : n ≡ places p.source) (k : InWork p np wf wu) where
-  e1 : n + np - n ≡ np
-  e1 = omega arith
+  module _ (ps : Pilots) (cut : Cut wu wf n p.source.ng np ps) where
+    pub loaded_in : Agrees p → OnGrid ps p.setting.l.nc p.setting.ng × Rows p.setting.l.nc p.setting.ng ps.start.now
+    loaded_in t = rw (cut.carriers, cut.symbols, cut.numbers, cut.starts, en, t.nc, t.ng, k.loaded.long_pc) (k.loaded, k.rows)
 
-  e2 : 2 * n + p.source.ng + 1 - 2 * n ≡ p.source.ng + 1
-  e2 = omega arith
-
-  abbrev symbols : List ℕ
-  symbols = take (n + np - n) (drop n wu)
-
-  abbrev starts : List ℕ
-  starts = take (2 * n + p.source.ng + 1 - 2 * n) (drop (2 * n) wu)
-
-  pub loaded_in : Agrees p → Loaded (take np wu) symbols (take (3 * np) wf) starts p.setting.l.nc p.setting.ng (length (take np wu)) × Rows p.setting.l.nc p.setting.ng starts
-  loaded_in t = rw (e1, e2, en, t.nc, t.ng, k.loaded.long_pc) (k.loaded, k.rows)
-
-  pub near_in : (g : ℕ) (rs : List Pilot) → rs ≡ near_of p.setting (pilots (take np wu) symbols (take (3 * np) wf) (length (take np wu))) starts g
-      → rs ≡ near_of p.setting (pilots_in p np wf wu) (starts_in p wu) g
-  near_in g rs e = rw (e1, e2, en, k.loaded.long_pc) at e
+    pub near_in : (g : ℕ) (rs : List Pilot) → rs ≡ near_of p.setting (listed ps) ps.start.now g → rs ≡ near_of p.setting (pilots_in p np wf wu) (starts_in p wu) g
+    near_in g rs e = rw (cut.carriers, cut.symbols, cut.numbers, cut.starts, en, k.loaded.long_pc) at e
 
 -- ---- what is asked of them
 

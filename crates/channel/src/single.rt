@@ -1,4 +1,5 @@
-// est.rs, `estimate`, by all pilots under the model that `new` sets. Those near the cell are handed on as one list of records.
+// est.rs, `estimate`, by all pilots under the model that `new` sets. Those near the cell are handed on as one list of
+// records.
 ghost use Rattle.std.specs.Prelude.{◌≡◌, ◌<◌, take};
 ghost use Rattle.refine.specs.Back.{Agrees};
 ghost use Rattle.refine.specs.Whole.{pilots_in, starts_in};
@@ -16,16 +17,12 @@ fn near_loaded(p: Plan, np: usize, g: usize, wf: &[f32], wu: &[u32]) -> Records
     ensures { take result.n result.ps ≡ near_of p.setting (pilots_in p np wf.now wu.now) (starts_in p wu.now) g }
 {
     let n = places_of(p.source);
-    let pilots = Pilots {
-        c: &wu[..np],
-        g: &wu[n..n + np],
-        f: &wf[..3 * np],
-        start: &wu[2 * n..2 * n + p.source.ng + 1],
-    };
+    let pilots = Pilots::of_lists(wu, wf, n, p.source.ng, np);
     near_records(&pilots, p.setting, g)
 }
 
-// By all np pilots. The work lists are free to work in once the records are made.
+// By all np pilots. The work lists are free to work in once the records are made. wf and wu are two parameters, longer
+// than np pilots take: whole.rt of refine says why.
 pub fn estimate_loaded(
     p: Plan,
     np: usize,

@@ -1,4 +1,5 @@
--- Sums of floats that lie between whole numbers lie between the sums of these: a rounding passes no whole number that the format holds. Assumes nothing.
+-- Sums of floats that lie between whole numbers lie between the sums of these: a rounding passes no whole number that
+-- the format holds. Assumes nothing.
 use Prim.Native.Nat.{ℕ, ◌+◌, ◌-◌, ◌*◌, ◌^◌, ◌≤◌, ◌<◌}
 use mathlib.Core.Path.{◌≡◌, sym, ap, ◌∙◌}
 use mathlib.Core.Bool.{Bool, true, false, true≢false}

@@ -5,6 +5,7 @@ pub mod Top
 pub mod Same
 pub mod Sharing
 pub mod Folds
+pub mod Loops
 pub mod Sums
 pub mod Logarithm
 pub mod Finite

@@ -1,4 +1,5 @@
--- The logarithm of what lies in 1..64 is no larger than 127 either way: what it is added to can't be made infinite by it. Assumes nothing.
+-- The logarithm of what lies in 1..64 is no larger than 127 either way: what it is added to can't be made infinite by
+-- it. Assumes nothing.
 use Prim.Native.Nat.{ℕ, zero, suc, ◌+◌, ◌-◌, ◌*◌, ◌/◌, ◌^◌, ◌≤◌, ◌<◌}
 use mathlib.Core.Path.{subst}
 use mathlib.Core.Bool.{Bool, true, false, cond}

@@ -6,19 +6,19 @@ use Rattle.seq.specs.Loop.{for}
 use Rattle.dsp.specs.declared.Complex.{Complex}
 use Rattle.dsp.specs.Arithmetic.{zeroᶜ}
 use Rattle.points.specs.Table.{point_at}
-use Rattle.demap.specs.declared.decision.Best.{Best}
+use Rattle.demap.specs.declared.decision.Decision.{Decision}
 use Rattle.demap.specs.Demap.{distance_of}
 
 -- if e < best { best = e; bx = x; }
-unfoldable pub nearer_of : Best → Float → Complex → Best
+unfoldable pub nearer_of : Decision → Float → Complex → Decision
 nearer_of best e x = cond (lt e best.e) (record { e = e; x = x }) best
 
 -- with e = (y - h * x).norm_sqr()
-unfoldable pub decide_turn : Complex → Complex → List Float → ℕ → Best → Best
+unfoldable pub decide_turn : Complex → Complex → List Float → ℕ → Decision → Decision
 decide_turn y h pts k best = let x = point_at pts k in nearer_of best (distance_of y h x) x
 
 -- (f32::INFINITY, Complex::ZERO)
-abbrev pub farthest : Best
+abbrev pub farthest : Decision
 farthest = record { e = inf false; x = zeroᶜ }
 
 -- for &x in &pts.pts[..pts.count()]

@@ -1,4 +1,5 @@
--- est.rs, `demap`, line by line. The source finds m0 and m1 in one loop and s0 and s1 in another; here `bit` says which of the two.
+-- est.rs, `demap`, line by line. The source finds m0 and m1 in one loop and s0 and s1 in another; here `bit` says which
+-- of the two.
 use Rattle.std.specs.Prelude.{ℕ, ◌^◌, cond, true, List, ◌++◌, eqb, get_or, drop, Float}
 use Rattle.std.specs.Float.{nan, inf, binary32}
 use Rattle.std.specs.Float.Ieee.{of_bits, neg}

@@ -26,7 +26,8 @@ pick_turn e bps b bit k s = cond (eqb (bit_of bps k b) bit) (s ⊞ at e k) s
 unfoldable pub picked_of : List Float → ℕ → ℕ → ℕ → Float
 picked_of e bps b bit = for 0 (2 ^ bps) (pick_turn e bps b bit) zero32
 
--- from `first` on, a step for each label that has the bit: the loop of which the largest metric and the two sums are instances
+-- from `first` on, a step for each label that has the bit: the loop of which the largest metric and the two sums are
+-- instances
 unfoldable pub half_turn : (Float → Float → Float) → List Float → ℕ → ℕ → ℕ → ℕ → Float → Float
 half_turn step d bps b bit k s = cond (eqb (bit_of bps k b) bit) (step s (at d k)) s
 

@@ -5,29 +5,32 @@ use crate::metrics::distance;
 use dsp::Complex;
 use points::Points;
 
-// The least distance so far, and the point that has it.
+// The decision so far: the least distance, and the point that has it.
 #[derive(Clone, Copy)]
-struct Best {
+struct Decision {
     e: f32,
     x: Complex,
 }
 
-impl Best {
-    fn nearer(self, e: f32, x: Complex) -> Best
+impl Decision {
+    #[tactic(auto, unfolding(crate::specs::Decide::nearer_of))]
+    fn nearer(self, e: f32, x: Complex) -> Decision
         ensures { result ≡ nearer_of self e x }
     {
-        if e < self.e { Best { e, x } } else { self }
+        if e < self.e { Decision { e, x } } else { self }
     }
 }
 
 // The point nearest to y / h, or the complex zero where no distance is below infinity.
+#[tactic(auto, using(crate::proofs::Loops::loops), unfolding(crate::specs::Decide::decide_turn, crate::specs::Decide::decide_of))]
 pub fn decide(y: Complex, h: Complex, pts: &Points) -> Complex
     ensures { result ≡ decide_of y h pts.now.pts pts.now.bps }
 {
-    let mut best = Best {
+    let mut best = Decision {
         e: f32::INFINITY,
         x: Complex::ZERO,
     };
+    // by number: a point is two numbers of the flat table
     for k in 0..pts.count() {
         let x = pts.point(k);
         best = best.nearer(distance(y, h, x), x);

@@ -20,7 +20,8 @@ impl ByLabel {
         (k >> (self.bps - 1 - b)) % 2
     }
 
-    // From `first` on, a step for each label whose bit b is `bit`.
+    // From `first` on, a step for each label whose bit b is `bit`: a number that the label's is compared with, and no
+    // flag, here and below. That b is below bps bounds an index.
     fn fold_half<F: Fn(f32, f32) -> f32>(&self, b: usize, bit: usize, first: f32, step: F) -> f32
         requires within { b < self.now.bps }
         requires can { CanStep (F.pre step) self.now.at self.now.bps b bit }

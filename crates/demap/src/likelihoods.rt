@@ -18,6 +18,7 @@ struct Weights {
 }
 
 impl Weights {
+    #[tactic(auto, using(crate::proofs::Sharing::over_asked))]
     fn of(c: Cell, pts: &Points) -> Weights
         requires { 0 < pts.now.bps }
         ensures bits { result.d.bps ≡ pts.now.bps }
@@ -29,8 +30,9 @@ impl Weights {
         Weights { d, most, e }
     }
 
-    // The logarithm of the sum of the likelihoods of the labels whose bit b is `bit`. For the half that has the largest
-    // metric of all the exponentials are at hand.
+    // The logarithm of the sum of the likelihoods of the labels whose bit b is `bit`, a number as in `fold_half`. For
+    // the half that has the largest metric of all the exponentials are at hand.
+    #[tactic(auto, using(crate::proofs::Sums::ln_asked), unfolding(crate::specs::Demap::side_of))]
     fn side(&self, b: usize, bit: usize) -> f32
         requires { (b < self.now.d.bps) × (bit < 2) }
         ensures { result ≡ side_of self.now.d.at self.now.d.bps b bit }
@@ -42,6 +44,7 @@ impl Weights {
         m + elementary::ln(self.d.sum_against(b, bit, m))
     }
 
+    #[tactic(auto, unfolding(crate::specs::Demap::likelihood_of))]
     fn likelihood(&self, b: usize) -> f32
         requires { b < self.now.d.bps }
         ensures { result ≡ likelihood_of self.now.d.at self.now.d.bps b }
@@ -52,6 +55,7 @@ impl Weights {
 }
 
 // The likelihood ln P(0) / P(1) of each bit of the cell, into the first bps of `out`.
+#[tactic(auto, using(crate::proofs::Loops::tabs, crate::proofs::Sharing::front_written), unfolding(crate::specs::Demap::likelihoods))]
 pub fn demap(c: Cell, pts: &Points, out: &mut [f32])
     requires { pts.now.bps ≤ length out.old }
     ensures { out.new ≡ likelihoods c pts.now.pts pts.now.bps ++ drop pts.now.bps out.old }

@@ -14,13 +14,15 @@ pub struct Cell {
     pub sigma2: f32,
 }
 
+#[tactic(auto, unfolding(crate::specs::Demap::distance_of))]
 pub fn distance(y: Complex, h: Complex, x: Complex) -> f32
     ensures { result ≡ distance_of y h x }
 {
-    y.sub(h.mul(x)).norm_sqr()
+    (y - h * x).norm_sqr()
 }
 
 // The logarithm of the point's likelihood, up to a constant.
+#[tactic(auto, unfolding(crate::specs::Demap::metric_of, crate::specs::Demap::variance_of))]
 fn metric(c: Cell, x: Complex) -> f32
     ensures { result ≡ metric_of c x }
 {
@@ -29,6 +31,7 @@ fn metric(c: Cell, x: Complex) -> f32
 }
 
 // The metrics of the points, by their labels.
+#[tactic(auto, using(crate::proofs::Loops::tabs, crate::proofs::Sharing::front_written), unfolding(crate::specs::Demap::metrics_of, soft::specs::Tree::page))]
 pub fn metrics(c: Cell, pts: &Points) -> ByLabel
     ensures bits { result.bps ≡ pts.now.bps }
     ensures each { result.at ≡ metrics_of c pts.now.pts pts.now.bps }

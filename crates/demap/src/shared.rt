@@ -4,6 +4,7 @@ ghost use Rattle.demap.specs.Shared.{Over, Asked, Shared};
 use crate::halves::ByLabel;
 
 // The largest metric.
+#[tactic(auto, using(crate::proofs::Sharing::largest_over))]
 pub fn largest(d: &ByLabel) -> f32
     requires { 0 < d.now.bps }
     ensures { Over d.now.at d.now.bps result }
@@ -12,6 +13,7 @@ pub fn largest(d: &ByLabel) -> f32
 }
 
 // Each metric's likelihood against m.
+#[tactic(auto, using(crate::proofs::Loops::tabs, crate::proofs::Loops::taken, crate::proofs::Sharing::tabbed_at))]
 pub fn exponentials(d: &ByLabel, m: f32) -> ByLabel
     requires { Asked d.now.at d.now.bps m }
     ensures bits { result.bps ≡ d.now.bps }
@@ -25,6 +27,7 @@ pub fn exponentials(d: &ByLabel, m: f32) -> ByLabel
 }
 
 // Whether two numbers are one. Of zeros it says no, since they may differ in sign.
+#[tactic(auto, using(crate::proofs::Same::same_float))]
 pub fn same(x: f32, y: f32) -> bool
     ensures { result ≡ true → x ≡ y }
 {

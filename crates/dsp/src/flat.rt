@@ -5,7 +5,7 @@ ghost use Rattle.dsp.specs.Flat.{complex_at, put_at};
 use crate::Complex;
 
 impl Complex {
-    // Number k of a list.
+    // Number k of a list; k is its place, and no length.
     pub fn at(xs: &[f32], k: usize) -> Complex
         requires { 2 * k + 2 ≤ length xs.now }
         ensures { result ≡ complex_at xs.now k }

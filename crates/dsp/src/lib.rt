@@ -2,13 +2,10 @@
 #![tactic(auto)]
 
 ghost use Rattle.std.specs.Prelude.{◌≡◌};
-ghost use Rattle.dsp.specs.Arithmetic.{complex, conjᶜ, norm_sqr, scaleᶜ, ◌+ᶜ◌, ◌-ᶜ◌, ◌*ᶜ◌, negᶜ};
+ghost use Rattle.dsp.specs.Arithmetic.{complex, conjᶜ, norm_sqr, scaleᶜ};
 
 mod flat;
-mod lists;
 mod operators;
-
-pub use lists::copy;
 
 #[derive(Clone, Copy)]
 pub struct Complex {
@@ -34,6 +31,7 @@ impl Complex {
         }
     }
 
+    #[tactic(auto, unfolding(crate::specs::Arithmetic::norm_sqr))]
     pub fn norm_sqr(self) -> f32
         ensures { result ≡ norm_sqr self }
     {
@@ -47,29 +45,5 @@ impl Complex {
             re: self.re * k,
             im: self.im * k,
         }
-    }
-
-    pub fn add(self, o: Complex) -> Complex
-        ensures { result ≡ self +ᶜ o }
-    {
-        self + o
-    }
-
-    pub fn sub(self, o: Complex) -> Complex
-        ensures { result ≡ self -ᶜ o }
-    {
-        self - o
-    }
-
-    pub fn mul(self, o: Complex) -> Complex
-        ensures { result ≡ self *ᶜ o }
-    {
-        self * o
-    }
-
-    pub fn neg(self) -> Complex
-        ensures { result ≡ negᶜ self }
-    {
-        -self
     }
 }

@@ -1,12 +1,13 @@
 -- ln and ln_1p by cases, and ln's m and e off the bit pattern. Assumes nothing.
 use Rattle.std.proofs.Common.{◌≡◌, ℕ, zero, suc, ◌+◌, ◌-◌, ◌*◌, ◌/◌, ◌%◌, ◌^◌, ◌<◌, ◌≤◌, Bool, true, false, not, T, leb, ◌⊎◌, negsuc, sym, refl, ap, ◌∙◌, subst, inl, inr, le_trans, le_of_eq, lt_of_lt_of_le, lt_of_le_of_lt, mul-le-mul_right, mul_assoc, div-lt_iff_lt-mul, lt_of_mul-lt-mul_right, eq-or-lt_of_le, mul-lt-mul_of_pos_right, mul-pos, mul_right_comm, mul-div_cancel, arith, lit<, lit≤, lt→ltb, leb→le, nltb→le, T_not, pow_pos, pow-add, shl_lt}
 use lib.Dec.{nleb→lt}
-use lib.Ieee.{Float, nan, inf, fin, binary32, up, down, size, round, lt, of_bits, nan_bits}
-use lib.Ieee.Bits.{is_false, nan_bits_is, nan_bits_above}
+use lib.Ieee.{Float, nan, inf, fin, binary32, up, down, size, round, lt, fits, of_bits, to_bits, nan_bits}
+use lib.Ieee.Bits.{is_false, nan_bits_is, nan_bits_above, to_bits-lt}
 use lib.Ieee.Fits.{down_pos}
 use lib.Ieee.Exact.{HasValue}
 use lib.Ieee.Scale.{finite}
 use Rattle.ieee.proofs.Codec.{size_is, decode_zero, decode_suc, decode_inf, no_digits}
+use Rattle.ieee.proofs.Floats.{back}
 use Rattle.elementary.specs.Domain.{Number, FromLeast}
 use Rattle.elementary.specs.FixedPoint.{M, L, whole_of, over}
 use Rattle.elementary.specs.Ln.{odd_of, ln_parts, ln_at, ln1p_at}
@@ -86,6 +87,12 @@ domain b w n d = go (leb 2147483648 b) refl (leb→le 2147483648 b) (nleb→lt 2
     go true s x y = absurd (minus s (E b) refl (eq-or-lt_of_le (top b)))
     go false s x y = (normal b (y tt) (some s), most b (y tt) (nltb→le 2139095040 (b % 2147483648) (subst (λ (t : Bool). T (not t)) (nan_bits_above binary32 b) nb)))
 
+-- the same of a value's own pattern
+pub domain_of : (v : Float) → fits binary32 v ≡ true → Number v → FromLeast v → (8388608 ≤ to_bits binary32 v) × (to_bits binary32 v ≤ 2139095040)
+domain_of v held n h =
+    let e = sym (back binary32 v held) in
+    domain (to_bits binary32 v) (to_bits-lt binary32 v (subst T (sym held) tt)) (subst (λ (x : Float). Number x) e n) (subst (λ (x : Float). FromLeast x) e h)
+
 -- ---- the parts of a value
 ln_at_parts : (v : Float) (m j : ℕ) → HasValue v false (m * 2 ^ j) (2 ^ 149) → 2 ^ 23 ≤ m → m < 2 ^ 24 → ln_at v ≡ ln_parts m (j + 1)
 unfolding ln_at
@@ -148,15 +155,6 @@ ln_parts_lem b h k =
 
     sum : (t : ℕ) → 8388608 + t + 8388608 ≡ t + 16777216
     sum t = omega arith
-
-pub z_lt : (d : ℕ) → d < 8388608 → d * M / (d + 16777216) < 2 ^ 31
-z_lt d h = (div-lt_iff_lt-mul (above d)).1 (less d h)
-  where
-    above : (d : ℕ) → 0 < d + 16777216
-    above d = omega arith
-
-    less : (d : ℕ) → d < 8388608 → d * M < 2 ^ 31 * (d + 16777216)
-    less d h = omega arith
 
 pub ln_at_nan : ln_at nan ≡ nan
 unfolding ln_at

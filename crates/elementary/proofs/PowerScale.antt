@@ -1,5 +1,5 @@
 -- P / (M * 2 ^ n), as the code makes it: a product by a power of two, which is exact, and a narrowing. Assumes nothing.
-use Rattle.std.proofs.Common.{◌≡◌, ℕ, suc, ◌+◌, ◌-◌, ◌*◌, ◌/◌, ◌%◌, ◌^◌, ◌<◌, ◌≤◌, Bool, false, not, T, leb, pos, sym, ap, ◌∙◌, subst, le_trans, lt_of_lt_of_le, lt_of_le_of_lt, zero-lt-suc, mul_assoc, mul_comm, mul-pos, not-le_of_lt, mul_left_comm, arith, lit<, lit≤, leb→le, pow_pos, pow_mono, pow-add, shl_lt}
+use Rattle.std.proofs.Common.{◌≡◌, ℕ, suc, ◌+◌, ◌-◌, ◌*◌, ◌/◌, ◌%◌, ◌^◌, ◌<◌, ◌≤◌, Bool, false, not, T, leb, pos, sym, ap, ◌∙◌, subst, le_trans, lt_of_lt_of_le, lt_of_le_of_lt, zero-lt-suc, mul_assoc, mul-pos, not-le_of_lt, arith, lit<, lit≤, leb→le, pow_pos, pow_mono, pow-add, shl_lt}
 use lib.Dec.{not_T}
 use lib.Ieee.{Float, nan, inf, fin, binary32, binary64, round, mul, of_int, of_bits, nan_bits, is_nan}
 use lib.Ieee.Bits.{is_false, nan_bits_is}
@@ -48,7 +48,7 @@ power_no_nan n h =
     b n = omega arith
 
 join : (P A x y : ℕ) → P * (A * x) * y ≡ P * (A * (x * y))
-join P A x y = simp (mul_assoc, mul_comm, mul_left_comm)
+join P A x y = simp (mul_assoc)
 
 pub scaled : (P n : ℕ) → 0 < P → P ≤ M → n ≤ 125 → narrowed (mul binary64 (of_int binary64 (pos P)) (of_bits binary64 ((991 - n) * 4503599627370496))) ≡ round binary32 false P (M * 2 ^ n)
 scaled P n p u h =

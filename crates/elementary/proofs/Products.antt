@@ -1,5 +1,5 @@
 -- |p| B rounded down, as the code makes it: a product by 2^30, which is exact, cut to a whole number. Assumes nothing.
-use Rattle.std.proofs.Common.{◌≡◌, ℕ, zero, suc, ◌+◌, ◌*◌, ◌/◌, ◌^◌, ◌<◌, ◌≤◌, Bool, true, false, not, T, ltb, ◌⊎◌, ℤ, pos, sym, refl, ap, ◌∙◌, subst, inl, inr, true≢false, le_trans, le_of_eq, lt_of_le_of_lt, mul-le-mul_right, zero-lt-suc, mul_assoc, mul_comm, mul-lt-mul_of_pos_right, mul-pos, zero-mul, mul-one, mul_right_comm, le_of_mul-le-mul_right, arith, lit<, lit≤, ltb→lt, lt→ltb, nltb→le, pow-add}
+use Rattle.std.proofs.Common.{◌≡◌, ℕ, zero, suc, ◌+◌, ◌*◌, ◌/◌, ◌^◌, ◌<◌, ◌≤◌, Bool, true, false, not, T, ltb, ◌⊎◌, ℤ, pos, sym, refl, ap, ◌∙◌, subst, inl, inr, true≢false, le_trans, le_of_eq, lt_of_le_of_lt, mul-le-mul_right, zero-lt-suc, mul_assoc, mul_comm, mul-lt-mul_of_pos_right, mul-pos, zero-mul, mul-one, mul_right_comm, le_of_mul-le-mul_right, arith, lit<, lit≤, lt→ltb, nltb→le, pow-add}
 use native.Mathlib.Nat.{min-eq_left, div-le_of_le-mul, zero-div}
 use lib.Ieee.{Float, nan, inf, fin, binary64, up, down, unlike, round, mul, neg, lt, is_nan, of_bits, fits, to_unsigned}
 use lib.Ieee.Fits.{down_pos, neg-fits}
@@ -9,7 +9,7 @@ use Rattle.ieee.proofs.RoundNearest.{Steps, steps_of}
 use Rattle.elementary.specs.Constants.{zero64}
 use Rattle.elementary.specs.Domain.{Number, InTurns}
 use Rattle.elementary.specs.FixedPoint.{B, whole_of}
-use Rattle.elementary.proofs.WholePart.{fails}
+use Rattle.std.proofs.lemmas.Bool.{ltb-false, ltb-true}
 
 -- ---- a product by 2 ^ 30, cut to a whole number
 abbrev NotBelow : Bool → ℕ → Type 0
@@ -117,16 +117,13 @@ Small p = Number p × InTurns p
 plus : (m : ℕ) (e : ℤ) → T (not (ltb (1 * 2 ^ 9 * down e) (m * up e * 1))) → m * up e ≤ 512 * down e
 plus m e h = le_trans (le_of_eq (sym (mul-one (m * up e)))) (nltb→le (1 * 2 ^ 9 * down e) (m * up e * 1) h)
 
-holds : (a b : ℕ) → ltb a b ≡ true → a < b
-holds a b e = ltb→lt a b (subst T (sym e) tt)
-
 pub scaled_plus : (p : Float) → T (fits binary64 p) → Small p → lt p zero64 ≡ false → Scaled p (mul30 p)
 unfolding is_nan lt of_bits neg
 scaled_plus nan f h n = absurd h.0
 scaled_plus (inf true) f h n = absurd h.1.1
 scaled_plus (inf false) f h n = absurd h.1.0
 scaled_plus (fin false m e) f h n = as_scaled false m e f (plus m e h.1.0) false (inl refl)
-scaled_plus (fin true m e) f h n = as_scaled true m e f (plus m e h.1.1) true (inr (none (m * up e) (0 * 1 * down e) (fails 0 (m * up e * 1 + 0 * 1 * down e) n)))
+scaled_plus (fin true m e) f h n = as_scaled true m e f (plus m e h.1.1) true (inr (none (m * up e) (0 * 1 * down e) (ltb-false 0 (m * up e * 1 + 0 * 1 * down e) n)))
   where
     none : (x y : ℕ) → x * 1 + y ≤ 0 → x * (1 * 2 ^ 30) ≡ 0
     none x y h = omega arith
@@ -136,7 +133,7 @@ unfolding is_nan lt of_bits neg
 scaled_minus nan f h n = absurd h.0
 scaled_minus (inf true) f h n = absurd h.1.1
 scaled_minus (inf false) f h n = absurd h.1.0
-scaled_minus (fin false m e) f h n = absurd (none (m * up e * 1) (down e) (holds (m * up e * 1) (0 * 1 * down e) n))
+scaled_minus (fin false m e) f h n = absurd (none (m * up e * 1) (down e) (ltb-true (m * up e * 1) (0 * 1 * down e) n))
   where
     none : (x d : ℕ) → x < 0 * 1 * d → ⊥
     none x d h = omega arith

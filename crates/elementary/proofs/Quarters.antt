@@ -1,10 +1,12 @@
 -- sin and cos by cases: the sign of p, the quarter it falls in, and the two sums there. Assumes nothing.
-use Rattle.std.proofs.Common.{◌≡◌, ℕ, ◌-◌, ◌*◌, ◌/◌, ◌≤◌, Bool, true, false, cond, sym, refl, ap, mul-le-mul, arith}
+use Rattle.std.proofs.Common.{◌≡◌, ℕ, Bool, true, false, cond, sym, refl, ap}
 use lib.Ieee.{Float, nan, inf, fin, binary64, lt, neg, is_nan, of_bits}
 use Rattle.elementary.specs.Constants.{zero64}
 use Rattle.elementary.specs.FixedPoint.{B, whole_of, over}
-use Rattle.elementary.specs.Circular.{H, turned, wave_at, sin_at, cos_at}
+use Rattle.elementary.specs.Circular.{turned, wave_at, sin_at, cos_at}
+use Rattle.elementary.specs.Domain.{InTurns}
 use Rattle.elementary.proofs.Products.{Small}
+use Rattle.ieee.proofs.Floats.{number, nan_answer}
 
 -- ---- the quarters
 pub turned_0 : (r s t : ℕ) → r ≡ 0 → over binary64 s 0 B ≡ turned r s t
@@ -23,21 +25,7 @@ pub turned_3 : (r s t : ℕ) → r ≡ 3 → over binary64 t B B ≡ turned r s 
 unfolding turned
 turned_3 r s t e = sym (ap (λ (x : ℕ). turned x s t) e)
 
--- ---- f = Q - Q / H * H, and its square
-abbrev rest : ℕ → ℕ
-rest Q = Q - Q / H * H
-
-pub square_le : (Q : ℕ) → rest Q * rest Q ≤ 1686629712 * 1686629712
-square_le Q = mul-le-mul (less Q) (less Q)
-  where
-    less : (Q : ℕ) → rest Q ≤ 1686629712
-    less Q = omega arith
-
-pub square_cut : (Q : ℕ) → rest Q * rest Q / B ≤ 3 * B
-square_cut Q = cut (rest Q * rest Q) (square_le Q)
-  where
-    cut : (x : ℕ) → x ≤ 1686629712 * 1686629712 → x / B ≤ 3 * B
-    cut x h = omega arith
+pub ruleset quarters = (turned_0, turned_1, turned_2, turned_3)
 
 -- ---- the answers
 pub sin_at_nan : sin_at nan ≡ nan
@@ -68,3 +56,23 @@ cos_at_is nan h = absurd h.0
 cos_at_is (inf true) h = absurd h.1.1
 cos_at_is (inf false) h = absurd h.1.0
 cos_at_is (fin s m e) h = refl
+
+-- ---- the same by what the code tests
+pub sin_nan : (p : Float) → true ≡ is_nan p → of_bits binary64 9221120237041090560 ≡ sin_at p
+sin_nan p e = nan_answer binary64 sin_at p sin_at_nan e
+
+pub cos_nan : (p : Float) → true ≡ is_nan p → of_bits binary64 9221120237041090560 ≡ cos_at p
+cos_nan p e = nan_answer binary64 cos_at p cos_at_nan e
+
+pub sin_plus : (p : Float) → false ≡ is_nan p → InTurns p → lt p zero64 ≡ false → wave_at 0 (whole_of B p) ≡ sin_at p
+sin_plus p e h = sin_at_plus p (number p e, h)
+
+pub sin_minus : (p : Float) → false ≡ is_nan p → InTurns p → lt p zero64 ≡ true → neg (wave_at 0 (whole_of B p)) ≡ sin_at p
+sin_minus p e h = sin_at_minus p (number p e, h)
+
+pub cos_number : (p : Float) → false ≡ is_nan p → InTurns p → wave_at 1 (whole_of B p) ≡ cos_at p
+cos_number p e h = cos_at_is p (number p e, h)
+
+pub ruleset sines = (sin_nan, sin_plus, sin_minus)
+
+pub ruleset cosines = (cos_nan, cos_number)

@@ -125,3 +125,5 @@ over64_le a b h k = quotient64 (a - b) (omega arith) ∙ sym (over_le binary64 a
 
 pub over64_lt : (a b : ℕ) → b < 2 ^ 53 → a < b → neg (div binary64 (of_int binary64 (pos (b - a))) div30) ≡ over binary64 a b B
 over64_lt a b h k = ap neg (quotient64 (b - a) (omega arith)) ∙ neg_round binary64 false (b - a) B ∙ sym (over_lt binary64 a b B k)
+
+pub ruleset signs = (neg_round, over_le, over_lt)

@@ -2,6 +2,7 @@
 use Rattle.std.proofs.Common.{◌≡◌, ℕ, ◌+◌, ◌-◌, ◌*◌, ◌/◌, ◌^◌, ◌<◌, ◌≤◌, le_trans, le_of_eq, le_of_lt, mul-le-mul_right, mul_comm, mul-le-mul, mul-le-mul_left, div-le_self, arith}
 use native.Mathlib.Nat.{div-le_of_le-mul}
 use Rattle.elementary.specs.FixedPoint.{M, B}
+use Rattle.elementary.proofs.Turns.{turn_at, turn_none}
 
 -- ---- exp: a turn takes at most f
 pub exp_term : (f P j : ℕ) → P ≤ M → f * P / M / j ≤ f
@@ -52,3 +53,8 @@ pub divisor_cos : (K j : ℕ) → K ≡ 1 → 1 ≤ j → (2 * j - K) * (2 * j -
 divisor_cos K j e h =
     let a : 2 * j - K + 1 ≡ 2 * j = omega arith in
     rw (a, e)
+
+-- ---- what the check uses of the two loops that count down
+pub ruleset exp_turns = (turn_at, turn_none, exp_term)
+
+pub ruleset odd_turns = (turn_at, turn_none, odd_product, odd_turn_lem)

@@ -1,7 +1,8 @@
 -- |x| M rounded down, from the bit pattern of x, and how large it is. Assumes nothing.
-use Rattle.std.proofs.Common.{◌≡◌, ℕ, zero, suc, ◌+◌, ◌-◌, ◌*◌, ◌/◌, ◌%◌, ◌^◌, ◌<◌, ◌≤◌, Bool, true, false, not, T, ltb, leb, ◌⊎◌, sym, refl, ap, ◌∙◌, subst, inl, inr, zero-le, le_trans, le_of_eq, lt_of_lt_of_le, le_of_suc-le-suc, mul-le-mul_right, mul_assoc, mul-le-mul, eq-or-lt_of_le, one-mul, lt_of_not-le, zero-mul, mul-one, mul_right_comm, not-le_of_lt, le_of_mul-le-mul_right, mul-div_cancel, arith, lit<, lit≤, nltb→le, pow_pos, pow_mono, pow-add, shl_lt, shl_exact}
+use Rattle.std.proofs.Common.{◌≡◌, ℕ, zero, suc, ◌+◌, ◌-◌, ◌*◌, ◌/◌, ◌%◌, ◌^◌, ◌<◌, ◌≤◌, Bool, true, false, not, T, leb, ◌⊎◌, sym, refl, ap, ◌∙◌, subst, inl, inr, zero-le, le_trans, le_of_eq, lt_of_lt_of_le, le_of_suc-le-suc, mul-le-mul_right, mul_assoc, mul-le-mul, eq-or-lt_of_le, one-mul, lt_of_not-le, zero-mul, mul-one, mul_right_comm, not-le_of_lt, le_of_mul-le-mul_right, mul-div_cancel, arith, lit<, lit≤, nltb→le, pow_pos, pow_mono, pow-add, shl_lt, shl_exact}
 use native.Mathlib.Nat.{div-eq_of_lt, div-le_of_le-mul}
-use lib.Ieee.{Float, nan, inf, fin, binary32, up, down, lt, neg, of_bits, is_nan}
+use Rattle.std.proofs.lemmas.Bool.{ltb-false}
+use lib.Ieee.{Float, nan, inf, fin, binary32, up, down, lt, neg, fits, of_bits, to_bits, is_nan}
 use lib.Ieee.Bits.{nan_bits_is}
 use lib.Ieee.Fits.{down_pos}
 use lib.Ieee.Exact.{HasValue}
@@ -9,6 +10,7 @@ use lib.Ieee.Nearest.{div_same}
 use lib.Ieee.Scale.{finite}
 use lib.Ieee.Positive.{num, den, den_pos}
 use Rattle.ieee.proofs.Codec.{decode_zero, decode_suc, decode_inf, no_digits}
+use Rattle.ieee.proofs.Floats.{back}
 use Rattle.elementary.specs.Constants.{minus87}
 use Rattle.elementary.specs.Domain.{Number, NotAbove, InUnit}
 use Rattle.elementary.specs.FixedPoint.{M, whole_of}
@@ -94,9 +96,6 @@ Bounded x = T (finite x) × (num x ≤ 87 * den x)
 clash : true ≡ false → ⊥
 clash e = subst T e tt
 
-pub fails : (a b : ℕ) → ltb a b ≡ false → b ≤ a
-fails a b e = nltb→le a b (subst (λ (t : Bool). T (not t)) (sym e) tt)
-
 pub bounded : (x : Float) → Number x → NotAbove x → lt x minus87 ≡ false → Bounded x
 unfolding is_nan lt of_bits neg
 bounded nan n p e = absurd n
@@ -104,7 +103,7 @@ bounded (inf true) n p e = absurd (clash e)
 bounded (inf false) n p e = absurd p
 bounded (fin false m d) n p e =
     (tt, le_trans (le_of_eq (sym (mul-one (m * up d)))) (le_trans (nltb→le (0 * down d) (m * up d * 1) p) (le_trans (le_of_eq (zero-mul (down d))) zero-le)))
-bounded (fin true m d) n p e = (tt, le_trans (le_of_eq (sym (mul-one (m * up d)))) (fails (87 * down d) (m * up d * 1) e))
+bounded (fin true m d) n p e = (tt, le_trans (le_of_eq (sym (mul-one (m * up d)))) (ltb-false (87 * down d) (m * up d * 1) e))
 
 pub whole_le : (x : Float) → Bounded x → whole_of M x ≤ 87 * M
 unfolding whole_of
@@ -173,3 +172,11 @@ unfolding whole_of
 unit_whole nan h = absurd h.0
 unit_whole (inf s) h = absurd h.0
 unit_whole (fin s m e) h = div-le_of_le-mul (down e) (mul-le-mul_right M h.1)
+
+-- ---- the exponent field of a value's own pattern
+pub field_of : (x : Float) → fits binary32 x ≡ true → Number x → Bounded x → E (to_bits binary32 x) ≤ 133
+field_of x held n h =
+    let e = sym (back binary32 x held) in
+    field_le (to_bits binary32 x) (subst (λ (y : Float). Number y) e n) (subst (λ (y : Float). Bounded y) e h)
+
+pub ruleset shifts = (whole_large, whole_mid, whole_small)

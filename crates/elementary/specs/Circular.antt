@@ -59,7 +59,8 @@ wave_at i Q =
     let f = Q - q * H in
     turned ((q + i) % 4) (sin_part f) (cos_taken f)
 
--- Q = |p| B rounded down; a negative p negates sin as a float, so that a sine of 0 becomes -0, and p = -0 is not negative
+-- Q = |p| B rounded down; a negative p negates sin as a float, so that a sine of 0 becomes -0, and
+-- p = -0 is not negative
 unfoldable pub sin_at : Float → Float
 unfolding wave_at whole_of
 sin_at nan = nan

@@ -1,4 +1,5 @@
--- The floats that the recipes name, as the bit patterns of the code's literals. `proofs/Decimals.antt` shows that each is the decimal it stands for.
+-- The floats that the recipes name, as the bit patterns of the code's literals. `proofs/Decimals.antt` shows that each
+-- is the decimal it stands for.
 use Rattle.std.specs.Prelude.{from_bits, Float}
 use Rattle.std.specs.Float.{binary32, binary64}
 use Rattle.std.specs.Float.Ieee.{neg}

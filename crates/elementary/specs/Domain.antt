@@ -1,4 +1,5 @@
--- Which numbers each function is asked for, as the contracts require it. A NaN is always among them: no test holds for it.
+-- Which numbers each function is asked for, as the contracts require it. A NaN is always among them: no test holds for
+-- it.
 use Rattle.std.specs.Prelude.{not, T, is_nan, Float}
 use Rattle.std.specs.Float.Ieee.{lt, neg}
 use Rattle.elementary.specs.Constants.{zero+, unit, least, most}

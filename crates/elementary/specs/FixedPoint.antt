@@ -1,4 +1,5 @@
--- What document 01's recipes share: the scales, a float as a whole number and back, and a counted loop. Its // is `/` here, which rounds down.
+-- What document 01's recipes share: the scales, a float as a whole number and back, and a counted loop. Its // is `/`
+-- here, which rounds down.
 use Rattle.std.specs.Prelude.{ℕ, zero, suc, ◌+◌, ◌-◌, ◌*◌, ◌/◌, true, false, cond, nat_le, Float}
 use Rattle.std.specs.Float.{nan, inf, fin, Format}
 use Rattle.std.specs.Float.Ieee.{up, down, round}

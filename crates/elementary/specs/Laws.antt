@@ -1,4 +1,5 @@
--- What callers may count on, as statements. `proofs/Laws.antt`, `proofs/NearestGain.antt` and `proofs/NoBorrow.antt` prove them.
+-- What callers may count on, as statements. `proofs/Laws.antt`, `proofs/NearestGain.antt` and `proofs/NoBorrow.antt`
+-- prove them.
 use Rattle.std.specs.Prelude.{◌≡◌, ℕ, ◌+◌, ◌-◌, ◌*◌, ◌/◌, ◌^◌, ◌<◌, ◌≤◌, Bool, true, false, T, ℤ, pos, Float}
 use Rattle.std.specs.Float.{nan, inf, fin, binary32}
 use Rattle.std.specs.Float.Ieee.{up, down, size, le}
@@ -61,7 +62,8 @@ pub record CosLaws : Type 0 where
 pub record GainLaws : Type 0 where
   pub nearest : (q : ℕ) → q ≤ 3 → NearestRoot binary32 80 (10 ^ (3 * q)) 1 (gain_at q)
 
--- The recipes subtract whole numbers, the definitions natural ones, which end at 0. They mean the same, as no difference takes more than there is.
+-- The recipes subtract whole numbers, the definitions natural ones, which end at 0. They mean the same, as no
+-- difference takes more than there is.
 -- (The turn j = 1 of c may, and is said apart in `Circular`.)
 pub record NoBorrow : Type 0 where
   -- Q - n L, Q - q H, and what is left is below L and H

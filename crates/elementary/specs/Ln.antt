@@ -29,7 +29,8 @@ ln_parts m x =
     let A = odd_of Z in
     over binary32 (x * L + A) (127 * L) M
 
--- v = m * 2 ^ (e - 23) with 2^23 ≤ m < 2^24. As a multiple n of the least f32, 2^-149, v has the 24 leading digits m and k digits after them:
+-- v = m * 2 ^ (e - 23) with 2^23 ≤ m < 2^24. As a multiple n of the least f32, 2^-149, v has the 24 leading digits m
+-- and k digits after them:
 -- v = m * 2 ^ (k - 149), so e = k - 126.
 unfoldable pub ln_at : Float → Float
 unfolding ln_parts

@@ -6,12 +6,13 @@ ghost use Rattle.elementary.specs.Exp.{exp_sum, exp_at};
 use crate::fixed::{L, M, fixed_bits};
 
 // P, by Horner's rule: e ^ -(f / M) at the scale M.
-#[tactic(auto, using(crate::proofs::Turns::turn_at, crate::proofs::Turns::turn_none, crate::proofs::TurnBounds::exp_term), unfolding(crate::specs::Exp::exp_sum))]
+#[tactic(auto, using(crate::proofs::TurnBounds::exp_turns), unfolding(crate::specs::Exp::exp_sum))]
 fn horner(f: u64) -> u64
     requires { f < L }
     ensures { (result ≡ exp_sum f) × ((0 < result) × (result ≤ M)) }
 {
     let mut p: u64 = M;
+    // j is the divisor.
     for j in (1..=12).rev() {
         p = M - f * p / M / j;
     }

@@ -13,6 +13,7 @@ pub const L: u64 = 2977044471;
 pub const B: u64 = 1073741824;
 
 // The size of the f32 of the pattern b, below 128, times 2^32, without its fraction.
+#[tactic(auto, using(crate::proofs::WholePart::shifts))]
 pub fn fixed_bits(b: u32) -> u64
     requires { b % 2147483648 / 8388608 ≤ 133 }
     ensures { result ≡ whole_of M (Ieee.of_bits binary32 b) }
@@ -29,6 +30,7 @@ pub fn fixed_bits(b: u32) -> u64
 }
 
 // d / 2^32 to the nearest f32. Both parts are exact, so that only their sum rounds.
+#[tactic(auto, using(crate::proofs::Quotients::two_parts))]
 pub fn over_m(d: u64) -> f32
     requires { d < 2 ^ 40 }
     ensures { result ≡ Ieee.round binary32 false d M }
@@ -37,6 +39,7 @@ pub fn over_m(d: u64) -> f32
 }
 
 // (a - b) / 2^32 to the nearest f32.
+#[tactic(auto, using(crate::proofs::Quotients::signs))]
 pub fn over32(a: u64, b: u64) -> f32
     requires { (a < 2 ^ 40) × (b < 2 ^ 40) }
     ensures { result ≡ over binary32 a b M }
@@ -60,6 +63,7 @@ pub fn size30(p: f64) -> u64
 
 // (a - b) / 2^30. Not one function with over32: they share the choice of the sign alone, and a trait that names the
 // scale, the division and the negation would be longer than both.
+#[tactic(auto, using(crate::proofs::Quotients::over64_le, crate::proofs::Quotients::over64_lt))]
 pub fn over64(a: u64, b: u64) -> f64
     requires { (a < 2 ^ 53) × (b < 2 ^ 53) }
     ensures { result ≡ over binary64 a b B }

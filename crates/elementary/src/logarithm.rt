@@ -10,12 +10,13 @@ use crate::fixed::{L, M, fixed_bits, over_m, over32};
 const BIAS: u64 = 127 * L;
 
 // The turns of S, with w for W.
-#[tactic(auto, using(crate::proofs::Turns::turn_at, crate::proofs::Turns::turn_none, crate::proofs::TurnBounds::odd_product, crate::proofs::TurnBounds::odd_turn_lem), unfolding(crate::specs::Ln::odd_sum))]
+#[tactic(auto, using(crate::proofs::TurnBounds::odd_turns), unfolding(crate::specs::Ln::odd_sum))]
 fn odd_series(w: u64) -> u64
     requires { w ≤ 2 ^ 30 }
     ensures { (result ≡ odd_sum w) × (result ≤ 2 ^ 33) }
 {
     let mut s: u64 = 0;
+    // j makes the odd divisor.
     for j in (0..11).rev() {
         s = M / (2 * j + 1) + w * s / M;
     }
@@ -23,6 +24,7 @@ fn odd_series(w: u64) -> u64
 }
 
 // Odd(z).
+#[tactic(auto, using(crate::proofs::TurnBounds::odd_last), unfolding(crate::specs::Ln::odd_of))]
 fn odd(z: u64) -> u64
     requires { z < 2 ^ 31 }
     ensures { (result ≡ odd_of z) × (result ≤ 2 ^ 33) }
@@ -32,6 +34,7 @@ fn odd(z: u64) -> u64
 
 // The logarithm of the f32 of the pattern b, which is normal and above zero. The exponent field x is
 // e + 127, so that no number on the way is below zero; the bias comes off at the end.
+#[tactic(auto, using(crate::proofs::LnParts::ln_parts_lem))]
 fn ln_bits(b: u32) -> f32
     requires { (8388608 ≤ b) × (b < 2139095040) }
     ensures { result ≡ ln_at (Ieee.of_bits binary32 b) }

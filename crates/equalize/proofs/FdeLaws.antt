@@ -10,7 +10,7 @@ use Rattle.seq.specs.Cat.Laws.{cat-same}
 use Rattle.spread.specs.Spreader.{inverse_of}
 use Rattle.spread.proofs.Pairs.{length_pairs}
 use Rattle.spread.proofs.Spreading.{length_inverse}
-use Rattle.equalize.specs.declared.equalizer.Sums.{Sums}
+use Rattle.equalize.specs.declared.equalizer.FdeSums.{FdeSums}
 use Rattle.equalize.specs.Answer.{Answer}
 use Rattle.equalize.specs.Filter.{channel_of}
 use Rattle.equalize.specs.Fde.{none, weight, turn, filtered, carriers_of, result_of, fde_of}
@@ -33,5 +33,5 @@ unfolding fde_of
 fde_laws = record {
   count = λ m tw y h v gain. length_inverse m tw (carriers_of m y h v gain).z;
   reads = λ m tw gain y y' h h' v v' sy sh sv.
-      ap (λ (a : Answer Sums). answer (result_of m a.result) (inverse_of m tw a.z)) (carriers_read m gain y y' h h' v v' sy sh sv);
+      ap (λ (a : Answer FdeSums). answer (result_of m a.result) (inverse_of m tw a.z)) (carriers_read m gain y y' h h' v v' sy sh sv);
 }

@@ -9,7 +9,7 @@ use lib.Ieee.{Float}
 use Rattle.ieee.specs.Num.{zero32}
 use Rattle.spread.specs.Spreader.{forward_of, inverse_of}
 use Rattle.spread.proofs.Spreading.{copied, length_forward, length_inverse, zeros_left}
-use Rattle.equalize.specs.declared.canceller.Sums.{Sums}
+use Rattle.equalize.specs.declared.canceller.SicSums.{SicSums}
 use Rattle.equalize.specs.declared.filter.Equalized.{Equalized}
 use Rattle.equalize.specs.Answer.{Equalizes}
 use Rattle.equalize.specs.Sic.{spread_of, carriers_of, result_of, restored, sic_of}
@@ -35,7 +35,7 @@ spread_carriers m tw y h v gain xm vx =
     carriers_read m gain vx y y h h v v _ (forward_of m tw xm) (λ j b. refl) (λ j b. refl) (λ j b. refl)
     (at_front m (forward_of m tw xm) (replicate (218 - 2 * m) zero32) (length_forward m tw xm))
 
-pub sic_answer : (m : ℕ) (tw y h v : List Float) (gain : Float) (xm : List Float) (vx : Float) (xs : List Float) (s : Sums) (r : Equalized) (z₀ z₁ z₂ z₃ : List Float)
+pub sic_answer : (m : ℕ) (tw y h v : List Float) (gain : Float) (xm : List Float) (vx : Float) (xs : List Float) (s : SicSums) (r : Equalized) (z₀ z₁ z₂ z₃ : List Float)
     → xs ≡ spread_of m tw xm → Equalizes m (carriers_of m y h v gain xs vx) s z₀ z₁ → z₂ ≡ inverse_of m tw z₁ ++ drop (2 * m) z₁ → r ≡ result_of m vx s
     → z₃ ≡ restored m r.mu xm z₂ ++ drop (2 * m) z₂ → Equalizes m (sic_of m tw y h v gain xm vx) r z₀ z₃
 unfolding sic_of

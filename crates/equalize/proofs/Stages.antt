@@ -1,4 +1,5 @@
--- Complex numbers at the front of a longer list: a stage that reads and writes no more than these leaves what is past them.
+-- Complex numbers at the front of a longer list: a stage that reads and writes no more than these leaves what is past
+-- them.
 use Prim.Native.Nat.{ℕ, ◌+◌, ◌*◌}
 use mathlib.Core.Path.{◌≡◌, sym, ap, ap₂, ◌∙◌}
 use mathlib.Core.Bool.{true, false}

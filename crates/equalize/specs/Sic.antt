@@ -7,7 +7,7 @@ use Rattle.dsp.specs.declared.Complex.{Complex}
 use Rattle.dsp.specs.Arithmetic.{norm_sqr, scaleᶜ, ◌+ᶜ◌, ◌-ᶜ◌, ◌*ᶜ◌}
 use Rattle.dsp.specs.Flat.{complex_at, flat}
 use Rattle.spread.specs.Spreader.{forward_of, inverse_of}
-use Rattle.equalize.specs.declared.canceller.Sums.{Sums}
+use Rattle.equalize.specs.declared.canceller.SicSums.{SicSums}
 use Rattle.equalize.specs.declared.filter.Equalized.{Equalized}
 use Rattle.equalize.specs.Answer.{Answer}
 use Rattle.equalize.specs.Filter.{at, channel_of, filter_of, passed_of, mean_of, mu_of, floored_of}
@@ -17,11 +17,11 @@ unfoldable pub spread_of : ℕ → List Float → List Float → List Float
 spread_of m tw xm = forward_of m tw xm ++ replicate (218 - 2 * m) zero32
 
 -- let (mut mu, mut p, mut q) = (0f32, 0f32, 0f32)
-abbrev pub none : Sums
+abbrev pub none : SicSums
 none = record { mu = zero32; p = zero32; q = zero32 }
 
 -- mu += wg; p += wg * wg; q += w.norm_sqr() * v[j]
-unfoldable pub added : Sums → Complex → Complex → Float → Sums
+unfoldable pub added : SicSums → Complex → Complex → Float → SicSums
 added s g w v = let wg = passed_of w g in record { mu = s.mu ⊞ wg; p = s.p ⊞ wg ⊠ wg; q = s.q ⊞ norm_sqr w ⊠ v }
 
 module _ (h v : List Float) (gain vx : Float) where
@@ -30,7 +30,7 @@ module _ (h v : List Float) (gain vx : Float) where
   weight j = let g = channel_of h gain j in filter_of g (vx ⊠ norm_sqr g ⊞ at v j)
 
   -- a turn of the loop, on the sums
-  unfoldable pub turn : ℕ → Sums → Sums
+  unfoldable pub turn : ℕ → SicSums → SicSums
   turn j s = added s (channel_of h gain j) (weight j) (at v j)
 
   -- z[j] = w * (y[j] - g * xs[j])
@@ -38,11 +38,11 @@ module _ (h v : List Float) (gain vx : Float) where
   filtered y xs j = weight j *ᶜ (complex_at y j -ᶜ channel_of h gain j *ᶜ complex_at xs j)
 
 -- for j in 0..y.len()
-unfoldable pub carriers_of : ℕ → List Float → List Float → List Float → Float → List Float → Float → Answer Sums
+unfoldable pub carriers_of : ℕ → List Float → List Float → List Float → Float → List Float → Float → Answer SicSums
 carriers_of m y h v gain xs vx = record { result = for 0 m (turn h v gain vx) none; z = cat m (λ j. flat (filtered h v gain vx y xs j)) }
 
 -- let mu = (mu / m).max(1e-6); let var = (vx * (p / m - mu * mu) + q / m).max(1e-3 * mu * mu)
-unfoldable pub result_of : ℕ → Float → Sums → Equalized
+unfoldable pub result_of : ℕ → Float → SicSums → Equalized
 result_of m vx s =
     let mu = mu_of s.mu m in
     record { mu = mu; var = floored_of (vx ⊠ (mean_of s.p m ⊟ mu ⊠ mu) ⊞ mean_of s.q m) mu }

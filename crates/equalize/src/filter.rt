@@ -3,6 +3,7 @@ ghost use Rattle.std.specs.Prelude.{◌≡◌, ◌≤◌};
 ghost use Rattle.equalize.specs.Filter.{filter_of, passed_of, mean_of, mu_of, floored_of};
 
 use dsp::Complex;
+use spread::Spreader;
 
 // The mean gain of the despread symbols and the variance of what is left: z = mu·x + e.
 #[derive(Clone, Copy)]
@@ -27,22 +28,20 @@ pub fn passed(w: Complex, g: Complex) -> f32
     (w * g).re
 }
 
-// A sum over m carriers, divided by m.
+// A sum over the carriers of a symbol, divided by their number.
 #[tactic(auto, unfolding(crate::specs::Filter::mean_of))]
-pub fn mean(sum: f32, m: usize) -> f32
-    requires { m ≤ 109 }
-    ensures { result ≡ mean_of sum m }
+pub fn mean(sum: f32, sp: &Spreader) -> f32
+    ensures { result ≡ mean_of sum sp.now.m }
 {
-    sum / (m as f32)
+    sum / (sp.m as f32)
 }
 
 // mu, not below 1e-6: the symbols are divided by it.
 #[tactic(auto, unfolding(crate::specs::Filter::mu_of))]
-pub fn mean_gain(sum: f32, m: usize) -> f32
-    requires { m ≤ 109 }
-    ensures { result ≡ mu_of sum m }
+pub fn mean_gain(sum: f32, sp: &Spreader) -> f32
+    ensures { result ≡ mu_of sum sp.now.m }
 {
-    ieee::max(mean(sum, m), 1e-6)
+    ieee::max(mean(sum, sp), 1e-6)
 }
 
 // A variance, not below a thousandth of mu's power.

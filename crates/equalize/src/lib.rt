@@ -9,4 +9,4 @@ mod received;
 pub use canceller::sic;
 pub use equalizer::fde;
 pub use filter::Equalized;
-pub use received::Received;
+pub use received::ReceivedSymbol;

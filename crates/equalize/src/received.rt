@@ -4,16 +4,18 @@ ghost use Rattle.equalize.specs.Filter.{channel_of};
 
 use dsp::Complex;
 
-// Cells y, their channel estimates h, their variances v of noise and estimation error, and the gain of the data.
+// Cells y, their channel estimates h, their variances v of noise and estimation error, and the gain of the data. That
+// a symbol's carriers lie in its lists is a clause (`Room`) and no ghost field: how many they are is the spreader's to
+// say, and z, where the answer goes, is lent beside.
 #[derive(Clone, Copy)]
-pub struct Received<'a> {
+pub struct ReceivedSymbol<'a> {
     pub y: &'a [f32],
     pub h: &'a [f32],
     pub v: &'a [f32],
     pub gain: f32,
 }
 
-impl Received<'_> {
+impl ReceivedSymbol<'_> {
     // g: the channel of carrier j, with the data gain on top.
     #[tactic(auto, unfolding(crate::specs::Filter::channel_of))]
     pub(crate) fn channel(&self, j: usize) -> Complex

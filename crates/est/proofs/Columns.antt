@@ -3,13 +3,13 @@ use Rattle.std.proofs.Common.{◌≡◌, ℕ, zero, suc, ◌+◌, ◌<◌, ◌�
 use lib.Ieee.{Float, nan}
 use Rattle.dsp.specs.Arithmetic.{complex}
 use Rattle.load.specs.declared.pilot.Pilot.{Pilot}
-use Rattle.near.specs.Search.{none}
+use Rattle.load.specs.Load.{nothing}
 use Rattle.near.proofs.Sorting.{length_mapped}
 use Rattle.solve.specs.Solve.{at}
 use Rattle.near.specs.declared.query.Query.{Query}
 use Rattle.est.specs.Columns.{carriers, symbols, variances, reals, imaginaries}
 use Rattle.est.specs.Covariance.{Usable}
-use Rattle.est.specs.declared.covariance.Field.{Field}
+use Rattle.est.specs.declared.neighbours.Field.{Field}
 
 pub nth_map : {A B : Type 0} (f : A → B) (l : List A) (i : ℕ) (z : A) (y : B) → i < length l → get_or (map f l) i y ≡ f (get_or l i z)
 nth_map f [] i z y h = absurd (omega arith)
@@ -24,21 +24,21 @@ module _ (ps : List Pilot) where
   long_symbols = length_mapped (λ (p : Pilot). p.g) ps
 
   module _ (i : ℕ) (h : i < length ps) where
-    pub carrier_of : slice_index (carriers ps) i ≡ (get_or ps i none).c
-    carrier_of = nth_map (λ (p : Pilot). p.c) ps i none 0 h
+    pub carrier_of : slice_index (carriers ps) i ≡ (get_or ps i nothing).c
+    carrier_of = nth_map (λ (p : Pilot). p.c) ps i nothing 0 h
 
-    pub symbol_of : slice_index (symbols ps) i ≡ (get_or ps i none).g
-    symbol_of = nth_map (λ (p : Pilot). p.g) ps i none 0 h
+    pub symbol_of : slice_index (symbols ps) i ≡ (get_or ps i nothing).g
+    symbol_of = nth_map (λ (p : Pilot). p.g) ps i nothing 0 h
 
-    pub variance_of : at (variances ps) i ≡ (get_or ps i none).var
-    variance_of = nth_map (λ (p : Pilot). p.var) ps i none nan h
+    pub variance_of : at (variances ps) i ≡ (get_or ps i nothing).var
+    variance_of = nth_map (λ (p : Pilot). p.var) ps i nothing nan h
 
-    pub gain_of : (get_or ps i none).h ≡ complex (at (reals ps) i) (at (imaginaries ps) i)
-    gain_of = rw (nth_map (λ (p : Pilot). p.h.re) ps i none nan h, nth_map (λ (p : Pilot). p.h.im) ps i none nan h) refl
+    pub gain_of : (get_or ps i nothing).h ≡ complex (at (reals ps) i) (at (imaginaries ps) i)
+    gain_of = rw (nth_map (λ (p : Pilot). p.h.re) ps i nothing nan h, nth_map (λ (p : Pilot). p.h.im) ps i nothing nan h) refl
 
 -- what `covary` asks: of the cell and a pilot, and of two pilots
 module _ (m : Field) (rf rt : List Float) (q : Query) (ps : List Pilot) (u : Usable m rf rt q (carriers ps) (symbols ps)) where
-  pub near_cell : (i : ℕ) → i < length ps → (q.c < m.nc) × ((get_or ps i none).c < m.nc) × (q.g < 65536) × (q.g ≤ (get_or ps i none).g + m.gw2) × ((get_or ps i none).g ≤ q.g + m.gw2)
+  pub near_cell : (i : ℕ) → i < length ps → (q.c < m.nc) × ((get_or ps i nothing).c < m.nc) × (q.g < 65536) × (q.g ≤ (get_or ps i nothing).g + m.gw2) × ((get_or ps i nothing).g ≤ q.g + m.gw2)
   near_cell i h =
       let k : i < length (carriers ps) = omega (arith, long ps) in
       let c = carrier_of ps i h in
@@ -46,7 +46,7 @@ module _ (m : Field) (rf rt : List Float) (q : Query) (ps : List Pilot) (u : Usa
       (u.cell_c, omega (arith, c, u.carrier i k), u.cell_g, omega (arith, g, u.near i k), omega (arith, g, u.near i k))
 
   pub near_pilots : (i j : ℕ) → i < length ps → j < length ps
-      → ((get_or ps i none).c < m.nc) × ((get_or ps j none).c < m.nc) × ((get_or ps i none).g < 65536) × ((get_or ps i none).g ≤ (get_or ps j none).g + m.gw2) × ((get_or ps j none).g ≤ (get_or ps i none).g + m.gw2)
+      → ((get_or ps i nothing).c < m.nc) × ((get_or ps j nothing).c < m.nc) × ((get_or ps i nothing).g < 65536) × ((get_or ps i nothing).g ≤ (get_or ps j nothing).g + m.gw2) × ((get_or ps j nothing).g ≤ (get_or ps i nothing).g + m.gw2)
   near_pilots i j h h' =
       let k : i < length (carriers ps) = omega (arith, long ps) in
       let k' : j < length (carriers ps) = omega (arith, long ps) in

@@ -6,7 +6,7 @@ use Rattle.near.specs.Search.{pilot}
 use Rattle.near.specs.declared.query.Query.{Query}
 use Rattle.est.specs.Columns.{carriers, symbols, variances, reals, imaginaries}
 use Rattle.est.specs.Covariance.{Usable}
-use Rattle.est.specs.declared.covariance.Field.{Field}
+use Rattle.est.specs.declared.neighbours.Field.{Field}
 use Rattle.est.specs.Estimate.{combined, estimate_excl, estimate_without, estimate_all}
 use Rattle.est.specs.declared.combine.Estimate.{Estimate}
 use Rattle.est.specs.declared.estimator.Estimator.{Estimator}

@@ -2,15 +2,16 @@
 ghost use Rattle.std.specs.Prelude.{◌≡◌, ◌*◌, ◌<◌, ◌≤◌, length};
 ghost use Rattle.load.specs.Pilots.{OnGrid};
 
-use crate::combine::{Estimate, combine};
-use crate::covariance::Field;
+use crate::combine::Estimate;
 use crate::model::Scales;
+use crate::neighbours::{Field, Neighbours};
 use dsp::Complex;
 use load::{Pilot, Pilots};
 use near::{Query, Window};
 
-// The pilots, the correlations rf and rt of a model with its units of distance, which pilots an estimate uses, the channel's power, and the factor on the errors.
-// The source owns its lists; here they are lent, since nothing is allocated.
+// The pilots, the correlations rf and rt of a model with its units of distance, which pilots an estimate uses, the
+// channel's power, and the factor on the errors. The source owns its lists; here they are lent, since nothing is
+// allocated.
 #[derive(Clone, Copy)]
 pub struct Estimator<'a> {
     pub pilots: Pilots<'a>,
@@ -47,7 +48,15 @@ impl Estimator<'_> {
         for (j, i) in idx.iter().enumerate() {
             ps[j] = self.pilots.pilot(*i as usize);
         }
-        combine(m, self.rf, self.rt, q, &ps[..idx.len()])
+        let ps = &ps[..idx.len()];
+        let near = Neighbours {
+            field: m,
+            rf: self.rf,
+            rt: self.rt,
+            q,
+            ps,
+        };
+        near.combine()
     }
 
     // The estimate at carrier c of symbol g from all pilots but one, and its error.

@@ -1,4 +1,5 @@
--- What callers may count on: a cell of an unspread burst is made from its own priors alone; and lengths. Assumes nothing.
+-- What callers may count on: a cell of an unspread burst is made from its own priors alone; and lengths.
+-- Assumes nothing.
 use Prim.Native.Nat.{ℕ, ◌+◌, ◌*◌, ◌<◌}
 use mathlib.Core.Path.{◌≡◌, refl, sym, ap, ◌∙◌}
 use mathlib.Core.Bool.{Bool, true, false, cond}

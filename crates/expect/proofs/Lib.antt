@@ -3,3 +3,4 @@ pub mod Front
 pub mod Laws
 pub mod Ways
 pub mod Sums
+pub mod Loops

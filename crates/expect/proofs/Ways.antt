@@ -1,7 +1,7 @@
 -- Both ways of a burst, with its symbols spread or not, leave what the contracts say. Assumes nothing.
 use Prim.Native.Nat.{ℕ, ◌*◌}
-use mathlib.Core.Path.{◌≡◌, refl, ap, ◌∙◌}
-use mathlib.Core.Bool.{Bool, true, false}
+use mathlib.Core.Path.{◌≡◌, refl, sym, ap, ◌∙◌}
+use mathlib.Core.Bool.{true, false, true≢false}
 use mathlib.Core.List.{List, ◌++◌}
 use native.Mathlib.Nat.{mul_assoc}
 use native.Mathlib.Omega.{arith}
@@ -14,15 +14,15 @@ use Rattle.expect.specs.Contract.{Expects}
 use Rattle.expect.proofs.Front.{respread_front}
 use Rattle.expect.proofs.Laws.{length_soft}
 
-not_both : {b : Bool} → b ≡ true → b ≡ false → ⊥
-not_both h h' = let z : ◌≡◌ {A = ℕ} 0 1 = cc in omega arith
-
--- out₁ is the list with the soft points in it
-module _ (s : Shape) (unit slots out₀ out₁ : List Float) where
+-- out₁ is the list with the soft points in it, made of points of the burst's bits
+module _ (s : Shape) (unit slots out₀ out₁ : List Float) (bps : ℕ) (bits : bps ≡ s.bps) where
   abbrev points : List Float
   points = soft_cells unit s.bps (s.nsym * s.dc) slots
 
-  module _ (e : out₁ ≡ points ++ drop (s.nsym * s.dc * 3) out₀) where
+  module _ (made : out₁ ≡ soft_cells unit bps (s.nsym * s.dc) slots ++ drop (s.nsym * s.dc * 3) out₀) where
+    e : out₁ ≡ points ++ drop (s.nsym * s.dc * 3) out₀
+    e = rw bits at made
+
     pub not_spread : s.spread ≡ false → out₁ ≡ expected_of s unit slots ++ drop (s.nsym * s.dc * 3) out₀
     unfolding expected_of
     not_spread h = e ∙ rw h
@@ -44,7 +44,7 @@ module _ (s : Shape) (unit slots out₀ out₁ : List Float) where
     expects_spread soft₀ soft₁ out₂ h c e' =
         let n = s.nsym * s.dc * 3 in
         let front : take n out₁ ≡ points = ap (take n) e ∙ take_at points (drop n out₀) n (length_soft unit s.bps slots (s.nsym * s.dc)) in
-        record { expected = spread_again out₂ h e'; points = λ _. c ∙ ap (λ (l : List Float). l ++ drop n soft₀) front; kept = λ h'. absurd (not_both h h') }
+        record { expected = spread_again out₂ h e'; points = λ _. c ∙ ap (λ (l : List Float). l ++ drop n soft₀) front; kept = λ h'. absurd (true≢false (sym h ∙ h')) }
 
     pub expects_plain : (soft₀ : List Float) → s.spread ≡ false → Expects s unit slots soft₀ soft₀ out₀ out₁
-    expects_plain soft₀ h = record { expected = not_spread h; points = λ h'. absurd (not_both h' h); kept = λ _. refl }
+    expects_plain soft₀ h = record { expected = not_spread h; points = λ h'. absurd (true≢false (sym h' ∙ h)); kept = λ _. refl }

@@ -1,4 +1,5 @@
--- refine.rs, `refine`: the expected value and variance of every data cell as sent, line by line. A cell is three numbers: re, im, variance.
+-- refine.rs, `refine`: the expected value and variance of every data cell as sent, line by line. A cell is three
+-- numbers: re, im, variance.
 use Rattle.std.specs.Prelude.{ℕ, ◌+◌, ◌*◌, cond, List, [], ◌∷◌, get_or, take, drop, Float}
 use Rattle.std.specs.Float.{nan}
 use Rattle.seq.specs.Loop.{for}

@@ -14,7 +14,8 @@ use spread::Spreader;
 use symbol::spread_row;
 pub use symbol::{row_means, row_variance};
 
-// Data symbols, cells in each, bits a cell, the points' gain, and whether a symbol's points are spread over its carriers.
+// Data symbols, cells in each, bits a cell, the points' gain, and whether a symbol's points are spread over its
+// carriers.
 #[derive(Clone, Copy)]
 pub struct Shape {
     pub nsym: usize,
@@ -24,7 +25,9 @@ pub struct Shape {
     pub spread: bool,
 }
 
-// The symbols of soft points, each spread.
+// The symbols of soft points, each spread, in a list that may be longer. By number: tried with `chunks_exact_mut`,
+// after which a proof knows the list's length alone and not what its rows became.
+#[tactic(auto, using(crate::proofs::Loops::cells), unfolding(crate::specs::Expect::respread))]
 fn respread(dc: usize, gain: f32, nsym: usize, out: &mut [f32])
     requires { (1 ≤ dc) × (dc ≤ 109) × (nsym * (dc * 3) ≤ length out.old) }
     ensures { out.new ≡ respread dc gain nsym out.old ++ drop (nsym * (dc * 3)) out.old }
@@ -39,6 +42,7 @@ fn respread(dc: usize, gain: f32, nsym: usize, out: &mut [f32])
 }
 
 // What is expected of every cell as sent.
+#[tactic(auto, using(crate::proofs::Ways::not_spread, crate::proofs::Ways::spread_again))]
 pub fn expected(s: Shape, unit: &Points, slots: &[f32], out: &mut [f32])
     requires fit { Fit s slots.now out.old out.old }
     requires bits { unit.now.bps ≡ s.bps }
@@ -51,6 +55,7 @@ pub fn expected(s: Shape, unit: &Points, slots: &[f32], out: &mut [f32])
 }
 
 // The same, where the soft points of a spread burst, which its equaliser wants, are left in `soft`.
+#[tactic(auto, using(crate::proofs::Ways::expects_plain))]
 pub fn expect(s: Shape, unit: &Points, slots: &[f32], soft: &mut [f32], out: &mut [f32])
     requires fit { Fit s slots.now soft.old out.old }
     requires bits { unit.now.bps ≡ s.bps }

@@ -1,7 +1,7 @@
 -- Numbers as lists of bits, and back. Assumes nothing.
 use Prim.Native.Nat.{ℕ, zero, suc, ◌+◌, ◌-◌, ◌*◌, ◌/◌, ◌%◌, ◌^◌, ◌≤◌, ◌<◌}
 use mathlib.Core.Path.{◌≡◌, refl, sym, ap, ap₂, ◌∙◌}
-use mathlib.Core.Bool.{Bool, true, false, ◌&&◌, false≢true}
+use mathlib.Core.Bool.{Bool, true, ◌&&◌}
 use mathlib.Core.List.{List, [], ◌∷◌, ◌++◌, append-nil}
 use native.Mathlib.Nat.{pow-suc, mod-one, mod-eq_of_lt}
 use native.Mathlib.Numerals.{add-one}
@@ -12,13 +12,10 @@ use lib.Seq.{take-suc, length-take-le}
 use lib.Pow.{pow-add, pow_mono, high, low, mod-pow-add}
 use borrow.Author.Tests.{ltb-true, lt-ltb}
 use Rattle.std.specs.List.{list_all}
+use Rattle.std.proofs.lemmas.Bool.{and_parts}
 use Rattle.seq.specs.Tab.{tab}
 use Rattle.seq.specs.Tab.Laws.{tab_only, tab_end}
 use Rattle.header.specs.Bits.{are_bits, value, digits}
-
-pub both : (a b : Bool) → a && b ≡ true → (a ≡ true) × (b ≡ true)
-both true b h = (refl, h)
-both false b h = absurd (false≢true h)
 
 -- ---- bits or not
 
@@ -30,19 +27,19 @@ as_list_all (b ∷ l) = ap (λ (t : Bool). ltb b 2 && t) (as_list_all l)
 pub bits_append : (l m : List ℕ) → are_bits l ≡ true → are_bits m ≡ true → are_bits (l ++ m) ≡ true
 unfolding are_bits
 bits_append [] m p q = q
-bits_append (b ∷ l) m p q = let r = both (ltb b 2) (are_bits l) p in rw r.0 (bits_append l m r.1 q)
+bits_append (b ∷ l) m p q = let r = and_parts (ltb b 2) (are_bits l) p in rw r.0 (bits_append l m r.1 q)
 
 pub bits_take : (n : ℕ) (l : List ℕ) → are_bits l ≡ true → are_bits (take n l) ≡ true
 unfolding are_bits
 bits_take zero l p = refl
 bits_take (suc n) [] p = refl
-bits_take (suc n) (b ∷ l) p = let r = both (ltb b 2) (are_bits l) p in rw r.0 (bits_take n l r.1)
+bits_take (suc n) (b ∷ l) p = let r = and_parts (ltb b 2) (are_bits l) p in rw r.0 (bits_take n l r.1)
 
 pub bits_drop : (n : ℕ) (l : List ℕ) → are_bits l ≡ true → are_bits (drop n l) ≡ true
 unfolding are_bits
 bits_drop zero l p = p
 bits_drop (suc n) [] p = refl
-bits_drop (suc n) (b ∷ l) p = bits_drop n l (both (ltb b 2) (are_bits l) p).1
+bits_drop (suc n) (b ∷ l) p = bits_drop n l (and_parts (ltb b 2) (are_bits l) p).1
 
 -- ---- read
 
@@ -137,8 +134,8 @@ same (b ∷ l) (c ∷ m) n p q e =
     let lm : value m < 2 ^ length l = rw n' at (value_lt m) in
     let hi : b % 2 ≡ c % 2 = sym (high (b % 2) (length l) (value_lt l)) ∙ ap (λ (k : ℕ). k / 2 ^ length l) e' ∙ high (c % 2) (length l) lm in
     let lo : value l ≡ value m = sym (low (b % 2) (length l) (value_lt l)) ∙ ap (λ (k : ℕ). k % 2 ^ length l) e' ∙ low (c % 2) (length l) lm in
-    let pb = both (ltb b 2) (are_bits l) p in
-    let qc = both (ltb c 2) (are_bits m) q in
+    let pb = and_parts (ltb b 2) (are_bits l) p in
+    let qc = and_parts (ltb c 2) (are_bits m) q in
     let bl = ltb-true b 2 pb.0 in
     let cl = ltb-true c 2 qc.0 in
     ap₂ (λ (x : ℕ) (t : List ℕ). x ∷ t) (omega (arith, hi, bl, cl)) (same l m (sym n') pb.1 qc.1 lo)
@@ -146,3 +143,6 @@ same (b ∷ l) (c ∷ m) n p q e =
 pub digits_value : (n : ℕ) (l : List ℕ) → length l ≡ n → are_bits l ≡ true → digits n (value l) ≡ l
 digits_value n l h b =
     same (digits n (value l)) l (length_digits n (value l) ∙ sym h) (bits_digits n (value l)) b (value_digits n (value l) (rw h at (value_lt l)))
+
+-- for `grind`, of the loop that reads
+pub ruleset reading = (read_more, read_lt)

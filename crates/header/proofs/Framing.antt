@@ -52,3 +52,6 @@ module _ (layout : ℕ) (h : Header) (old : List ℕ) where
     pub wrote_data : (h.nsym ≡ 0 → ⊥) → bits ≡ frame_of (data_info h) masks.crc_data → Writes layout h 0 old bits
     unfolding bits_of info_of mask_of data_mask
     wrote_data n b = wrote (b ∙ rw (e, ne_eqb h.nsym 0 n) refl)
+
+-- for `grind`, of `header_bits`
+pub ruleset writing = (passed, wrote_only, wrote_data)

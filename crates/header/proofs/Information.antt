@@ -8,7 +8,7 @@ use lib.Pow.{split, shr-shr}
 use borrow.Author.Tests.{leb-true, le-leb, eq-eqb, ne_eqb, eqb-true, not-true}
 use Rattle.header.specs.declared.fields.Header.{Header}
 use Rattle.header.specs.Fields.{bit, mode_bits, mode_from, is_plain, narrow, accepted, data_info, only_info, nsym_in, data_from, only_from}
-use Rattle.header.proofs.Digits.{both}
+use Rattle.std.proofs.lemmas.Bool.{and_parts}
 
 -- ---- bits of a flag and of the mode
 
@@ -35,8 +35,8 @@ pub record Narrow (h : Header) : Type 0 where
 pub narrow_fields : (h : Header) → accepted h ≡ true → Narrow h
 unfolding accepted
 narrow_fields h e =
-    let a = both _ _ (both (narrow h) _ e).0 in
-    let b = both _ _ a.0 in
+    let a = and_parts _ _ (and_parts (narrow h) _ e).0 in
+    let b = and_parts _ _ a.0 in
     record { constellation = leb-true _ 3 b.0; nsym = leb-true _ 1023 b.1; gain = leb-true _ 3 a.1 }
 
 pub mode_le : (h : Header) → Narrow h → mode_bits h.mode ≤ 14
@@ -48,7 +48,7 @@ pub ruleset roomy = (narrow_fields, mode_le, bit_le)
 
 no_extra : (h : Header) → accepted h ≡ true → (h.nsym ≡ 0 → ⊥) → h.extra ≡ 0
 unfolding accepted
-no_extra h e n = eqb-true _ 0 (both (narrow h) _ (rw (ne_eqb h.nsym 0 n) at e)).1
+no_extra h e n = eqb-true _ 0 (and_parts (narrow h) _ (rw (ne_eqb h.nsym 0 n) at e)).1
 
 record Bare (h : Header) : Type 0 where
   constellation : h.constellation ≡ 0
@@ -59,9 +59,9 @@ record Bare (h : Header) : Type 0 where
 bare : (h : Header) → accepted h ≡ true → h.nsym ≡ 0 → Bare h
 unfolding accepted
 bare h e n =
-    let a = both _ (is_plain h.mode) (both (narrow h) _ (rw (eq-eqb h.nsym 0 n) at e)).1 in
-    let b = both _ _ a.0 in
-    let c = both _ _ a.1 in
+    let a = and_parts _ (is_plain h.mode) (and_parts (narrow h) _ (rw (eq-eqb h.nsym 0 n) at e)).1 in
+    let b = and_parts _ _ a.0 in
+    let c = and_parts _ _ a.1 in
     record { constellation = eqb-true _ 0 b.0; sparse = not-true _ b.1; spread = not-true _ c.0; gain = eqb-true _ 0 c.1 }
 
 -- ---- data, there and back

@@ -1,4 +1,5 @@
--- The check bits of a message, as ITU-T V.41 has them, with document 01's start value; and the source's register that makes them.
+-- The check bits of a message, as ITU-T V.41 has them, with document 01's start value; and the source's register that
+-- makes them.
 use Rattle.std.specs.Prelude.{ℕ, ◌*◌, ◌/◌, ◌%◌, ◌^◌, ◌≡◌, cond, List, [], ◌∷◌, length, get_or, eqb}
 use Rattle.seq.specs.Loop.{for}
 use Rattle.header.specs.Bits.{value}

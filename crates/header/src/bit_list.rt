@@ -10,6 +10,7 @@ pub(crate) fn all_bits(bits: &[u8]) -> bool
 }
 
 // The number that the bits write.
+#[tactic(auto, using(crate::proofs::Digits::reading), unfolding(crate::specs::Bits::value))]
 pub(crate) fn read_bits(bits: &[u8]) -> u32
     requires { length bits.now ≤ 32 }
     ensures { result ≡ value bits.now }
@@ -22,6 +23,7 @@ pub(crate) fn read_bits(bits: &[u8]) -> u32
 }
 
 // The lowest digits of v, as many as the list holds.
+#[tactic(auto, using(seq::specs::Tab::Laws::tab_none, seq::specs::Tab::Laws::tab_step))]
 pub(crate) fn push_bits(out: &mut [u8], v: u32)
     requires { length out.old ≤ 32 }
     ensures { out.new ≡ digits (length out.old) v }

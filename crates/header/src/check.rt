@@ -3,6 +3,7 @@ ghost use Rattle.std.specs.Prelude.{◌≡◌};
 ghost use Rattle.header.specs.Check.{crc16_of, shifted};
 
 // One bit through the register.
+#[tactic(auto, using(crate::proofs::Register::on, crate::proofs::Register::off))]
 fn shift(crc: u16, b: u8) -> u16
     ensures { result ≡ shifted crc b }
 {

@@ -4,6 +4,8 @@ ghost use Rattle.header.specs.Fields.{accepted, data_info, only_info, data_from,
 
 use crate::mode::DataMode;
 
+// The codes are numbers, as in header.rs: document 01 has a row for fields that are not accepted. Where 32 bits are
+// read, `as` cuts nothing off, which the check proves; `try_from` would want an arm for what cannot be.
 #[derive(Clone, Copy)]
 pub struct Header {
     // 0 = QPSK, 1 = 8PSK, 2 = 16QAM, 3 = 64QAM (0 in a header-only burst).

@@ -5,6 +5,7 @@ ghost use Rattle.header.specs.Fields.{mode_bits, mode_from};
 #[derive(Clone, Copy, PartialEq, Eq)]
 pub struct DataMode {
     pub spread: bool,
+    // A number, as in the header: one above 3 is refused there.
     pub gain_code: u8,
 }
 

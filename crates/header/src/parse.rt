@@ -14,6 +14,7 @@ pub enum Parsed {
     HeaderOnly(Header),
 }
 
+// The layout is a number, since row 1 of the table is for one that there is not.
 fn parse_bits(b: &[u8], layout: u32) -> Result<Parsed, Cause>
     requires { length b.now ≡ 48 }
     ensures { Parses layout b.now result }

@@ -9,6 +9,7 @@ use crate::fields::{Header, data_info, only_info};
 use cause::Cause;
 
 // 32 bits of information, then their check under a mask.
+#[tactic(auto, using(crate::proofs::Framing::framed))]
 fn put_frame(b: &mut [u8], info: u32, mask: u16)
     requires { length b.old ≡ 48 }
     ensures { b.new ≡ frame_of info mask }
@@ -18,7 +19,7 @@ fn put_frame(b: &mut [u8], info: u32, mask: u16)
     push_bits(back, u32::from(crc16(front) ^ mask));
 }
 
-// The table's rows for writing.
+// The table's rows for writing. The layout is a number, since row 1 is for one that there is not.
 #[tactic(auto, unfolding(crate::specs::Frame::write_refusal))]
 fn tested(h: Header, layout: u32) -> Result<(), Cause>
     ensures { number_of result ≡ write_refusal layout h }
@@ -33,6 +34,7 @@ fn tested(h: Header, layout: u32) -> Result<(), Cause>
 }
 
 // A refusal leaves the array as it was.
+#[tactic(auto, using(crate::proofs::Framing::writing))]
 pub fn header_bits(h: Header, layout: u32, out: &mut [u8; 48]) -> Result<(), Cause>
     ensures { Writes layout h (number_of result) out.old out.new }
 {

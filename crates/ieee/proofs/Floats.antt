@@ -7,16 +7,14 @@ use lib.IntN.{pos}
 use lib.Ieee.{Float, nan, inf, fin, Format, binary32, binary64, up, down, low, prec, ones, hid, top, odd, units, round, fits, of_bits, to_bits, is_nan, nan_bits, div, ne, in_float}
 use lib.Ieee.Compare.{nan_differs, differs_from_itself}
 use lib.Arith.{le→nltb}
+use Rattle.std.proofs.lemmas.Bool.{true≢false}
 use lib.Ieee.Bits.{of_bits-to_bits, nan_bits_above, nan_bits_is}
 use lib.Ieee.Fits.{round_is}
 use Rattle.ieee.specs.Narrow.{narrowed}
 
-clash : true ≡ false → ⊥
-clash e = subst T e tt
-
 pub is_no_nan : (x : Float) → ne x x ≡ false → T (not (is_nan x))
 unfolding is_nan
-is_no_nan nan e = absurd (clash (sym nan_differs ∙ e))
+is_no_nan nan e = absurd (true≢false (sym nan_differs ∙ e))
 is_no_nan (inf s) e = tt
 is_no_nan (fin s m d) e = tt
 
@@ -85,13 +83,13 @@ nan_answer f h x e t = nan_pattern f (ones f * hid f + hid f / 2) (nan_most f) �
 pub number : (x : Float) → false ≡ is_nan x → T (not (is_nan x))
 number x e = subst (λ (t : Bool). T (not t)) e tt
 
+-- what a format holds is the value of its pattern
+pub back : (f : Format) (x : Float) → fits f x ≡ true → of_bits f (to_bits f x) ≡ x
+back f x held = of_bits-to_bits f x (subst T (sym held) tt)
+
 -- the pattern of a number is no NaN's
 pub number_pattern : (f : Format) (x : Float) → T (fits f x) → T (not (is_nan x)) → T (not (nan_bits f (to_bits f x)))
 number_pattern f x held n = subst (λ (t : Bool). T (not t)) (sym (nan_bits_is f (to_bits f x) ∙ ap is_nan (of_bits-to_bits f x held))) n
-
-pub quotient_nan64 : div binary64 (of_bits binary64 0) (of_bits binary64 0) ≡ nan
-unfolding div of_bits
-quotient_nan64 = refl
 
 -- a number that f counts without a gap
 pub counted : (f : Format) (n : ℕ) → n ≤ 2 ^ prec f → T (in_float f (pos n))

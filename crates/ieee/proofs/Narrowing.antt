@@ -2,7 +2,7 @@
 use mathlib.Core.Path.{◌≡◌, refl, sym, ap, ◌∙◌, subst}
 use mathlib.Core.Logic.{◌⊎◌, inl, inr}
 use Prim.Native.Nat.{ℕ, zero, suc, ◌+◌, ◌-◌, ◌*◌, ◌/◌, ◌%◌, ◌^◌, ◌≤◌, ◌<◌, compare}
-use native.Mathlib.Nat.{le_trans, le_of_eq, lt_of_lt_of_le, lt_of_le_of_lt, eq-or-lt_of_le, zero-lt-suc, mul-one, mul_comm, mul_assoc, mul_left_comm, mul-le-mul_right, mul-le-mul_left, mul-le-mul, mul-lt-mul_of_pos_right, div-lt_iff_lt-mul, le-div_iff_mul-le}
+use native.Mathlib.Nat.{add_assoc, le_trans, le_of_eq, lt_of_lt_of_le, lt_of_le_of_lt, eq-or-lt_of_le, zero-lt-suc, mul-one, mul_comm, mul_assoc, mul_left_comm, mul-le-mul_right, mul-le-mul_left, mul-le-mul, mul-lt-mul_of_pos_right, div-lt_iff_lt-mul, le-div_iff_mul-le}
 use native.Mathlib.Omega.{arith}
 use mathlib.Core.Bool.{Bool, true, false, not, cond}
 use lib.Dec.{T, leb, leb→le, nleb→lt, lit<, lit≤}
@@ -28,7 +28,7 @@ narrowed_inf s = refl
 
 -- ---- products of powers
 spread : (q x A B C : ℕ) → q * (A * x) * B * C ≡ q * x * (A * B * C)
-spread q x A B C = simp (mul_assoc, mul_comm, mul_left_comm)
+spread q x A B C = simp (mul_assoc, mul_comm)
 
 spread' : (q x A B C : ℕ) → q * (A * x) * B * C ≡ q * ((A * B * C) * x)
 spread' q x A B C = simp (mul_assoc, mul_comm, mul_left_comm)
@@ -40,7 +40,7 @@ gather q x y B = step ∙ ap (λ (z : ℕ). q * z) (sym (mul-one (B * (x * y))))
     step = simp (mul_assoc, mul_comm, mul_left_comm)
 
 middle : (A x B : ℕ) → A * x * B ≡ A * B * x
-middle A x B = simp (mul_assoc, mul_comm, mul_left_comm)
+middle A x B = simp (mul_assoc, mul_comm)
 
 -- ---- a normal result, or one too large
 off : (j z : ℕ) → z ≡ suc (23 + j) → z - 24 ≡ j
@@ -185,9 +185,10 @@ way_top b h n g = with_sign b 2139095040 h ∙ at_top (sg b) ∙ sym (go (eq-or-
         value_normal b (E b - 897) (back (E b) g) (less (E b) g l)
         ∙ units_inf binary32 (sg b) (closest (Q b) (2 ^ 29)) (E b - 897) (mul-le-mul (kept_least (Q b) (Q-ge b)) (pow_mono (far (E b) g)))
 
-pub way_normal : (b : ℕ) → b < 2 ^ 64 → E b ≤ 1150 → 896 < E b → of_bits binary32 (S b + ((E b - 897) * 8388608 + closest (Q b) (2 ^ 29))) ≡ narrowed (of_bits binary64 b)
+pub way_normal : (b : ℕ) → b < 2 ^ 64 → E b ≤ 1150 → 896 < E b → of_bits binary32 (S b + (E b - 897) * 8388608 + closest (Q b) (2 ^ 29)) ≡ narrowed (of_bits binary64 b)
 way_normal b h u g =
-    with_sign b ((E b - 897) * 8388608 + closest (Q b) (2 ^ 29)) h
+    ap (λ (r : ℕ). of_bits binary32 r) (add_assoc (S b) ((E b - 897) * 8388608) (closest (Q b) (2 ^ 29)))
+    ∙ with_sign b ((E b - 897) * 8388608 + closest (Q b) (2 ^ 29)) h
     ∙ enc (sg b) (closest (Q b) (2 ^ 29)) (E b - 897) (kept_most (Q b) 29 (Q-lt b) (lit≤ tt)) (inr (kept_least (Q b) (Q-ge b))) (bound (E b) u)
     ∙ sym (value_normal b (E b - 897) (back (E b) g) (less (E b) u))
   where
@@ -263,3 +264,6 @@ way_none b h u =
         narrowed_at (of_bits binary64 b) (sg b) (b % 4503599627370496 * 2 ^ 0) (2 ^ 1074) (pow_pos 1074) (decode_zero binary64 b e)
         ∙ gone (sg b) (b % 4503599627370496) 0 (t_lt b) (lit≤ tt)
     go (suc x) e l = value b x e (less x l) ∙ gone (sg b) (Q b) x (Q-lt b) (low_k x l)
+
+-- what the check uses of the four ways
+pub ruleset ways = (way_top, way_normal, way_small, way_none, kept_most)

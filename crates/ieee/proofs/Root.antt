@@ -1,7 +1,7 @@
 -- The integer square root, and the correctly rounded square root of a number of smallest values. Assumes nothing.
 use mathlib.Core.Path.{◌≡◌, refl, sym, ap, ◌∙◌, subst}
 use Prim.Native.Nat.{ℕ, zero, suc, ◌+◌, ◌-◌, ◌*◌, ◌/◌, ◌%◌, ◌^◌, ◌≤◌, ◌<◌, compare, Ordering}
-use native.Mathlib.Nat.{le_trans, le_of_eq, le_of_lt, le_antisymm, le_of_suc-le-suc, lt_irrefl, lt_of_lt_of_le, lt_of_le_of_lt, lt_of_not-le, not-le_of_lt, mul-one, mul_comm, mul_assoc, mul_left_comm, mul_right_comm, mul-mul-mul_comm, suc-mul, mul-suc, mul-le-mul_right, mul-le-mul_left, mul-le-mul, mul-lt-mul_of_pos_right, mul-pos, le-div_iff_mul-le, div-lt_iff_lt-mul, mul-div_cancel, pow-succ', mul-add}
+use native.Mathlib.Nat.{le_trans, le_of_eq, le_of_lt, le_antisymm, le_of_suc-le-suc, lt_irrefl, lt_of_lt_of_le, lt_of_le_of_lt, lt_of_not-le, not-le_of_lt, mul-one, mul_comm, mul_assoc, mul_right_comm, mul-mul-mul_comm, suc-mul, mul-suc, mul-le-mul_right, mul-le-mul_left, mul-le-mul, mul-lt-mul_of_pos_right, mul-pos, le-div_iff_mul-le, div-lt_iff_lt-mul, mul-div_cancel, pow-succ', mul-add}
 use native.Mathlib.Omega.{arith}
 use mathlib.Core.Bool.{Bool, true, false, not, cond}
 use lib.Dec.{T, leb, ltb, leb→le, nleb→lt, ltb→lt, nltb→le}
@@ -185,7 +185,7 @@ halves : (w : ℕ) → w ≡ w % 2 + (w / 2 + w / 2)
 halves w = omega arith
 
 scale_up : (m p r x : ℕ) → m * (p * (r * (x * x))) ≡ m * r * p * (x * x)
-scale_up m p r x = simp (mul_assoc, mul_comm, mul_left_comm)
+scale_up m p r x = simp (mul_assoc, mul_comm)
 
 par : (w : ℕ) → 2 ^ (w % 2) ≡ 1 + w % 2
 par w = go (w % 2) (below w)

@@ -115,7 +115,7 @@ module _ (j a b l : ℕ) (v y : Float) (W Y : ℕ) (hv : HasValue v false W l) (
       ∙ ap (λ (x : ℕ). a * x * (den v * den y) ^ j) (sym (mul_pow 2 l j))
     where
       turn : (a p d l : ℕ) → a * (p * d) * l ≡ a * (p * l) * d
-      turn a p d l = simp (mul_assoc, mul_comm, mul_left_comm)
+      turn a p d l = simp (mul_assoc, mul_comm)
 
   first : num v * den y * l ≡ W * D
   unfolding D

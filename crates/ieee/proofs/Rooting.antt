@@ -2,14 +2,15 @@
 use mathlib.Core.Path.{◌≡◌, refl, sym, ap, ◌∙◌, subst}
 use mathlib.Core.Logic.{◌⊎◌, inl, inr}
 use Prim.Native.Nat.{ℕ, zero, suc, ◌+◌, ◌-◌, ◌*◌, ◌/◌, ◌%◌, ◌^◌, ◌≤◌, ◌<◌}
-use native.Mathlib.Nat.{le_trans, le_of_eq, le_of_suc-le-suc, le_of_lt, lt_irrefl, lt_of_lt_of_le, lt_of_le_of_lt, lt_of_not-le, not-le_of_lt, eq-or-lt_of_le, zero-lt-suc, zero-add, zero-mul, mul-one, mul_assoc, suc-mul, mul-le-mul_right, mul-le-mul_left, mul-lt-mul_of_pos_right, mul-lt-mul_of_pos_left, mul-le-mul, mul-pos}
+use native.Mathlib.Nat.{le_trans, le_of_eq, le_of_suc-le-suc, le_of_lt, lt_irrefl, lt_of_lt_of_le, lt_of_le_of_lt, lt_of_not-le, eq-or-lt_of_le, zero-lt-suc, zero-add, zero-mul, mul-one, mul_assoc, suc-mul, mul-le-mul_right, mul-le-mul_left, mul-lt-mul_of_pos_right, mul-lt-mul_of_pos_left, mul-le-mul, mul-pos}
 use native.Mathlib.Omega.{arith}
 use mathlib.Core.Bool.{Bool, true, false, not, cond}
-use lib.Dec.{T, leb, le→leb, leb→le, not_T, lit<}
+use lib.Dec.{T, leb, le→leb, lit<}
 use lib.Pow.{pow-add, pow_pos, pow_mono, shl_lt}
 use lib.Count.{count_leading_zeros, leading_top}
 use lib.Ieee.{Float, nan, inf, fin, Format, binary32, binary64, prec, emax, low, hid, ones, top, up, down, units, of_bits, nan_bits}
-use lib.Ieee.Bits.{is_true, is_false}
+use lib.Ieee.Bits.{is_true}
+use Rattle.std.proofs.lemmas.Bool.{lt-leb}
 use lib.Ieee.Fits.{two, two-le_pos, down_pos}
 use lib.Ieee.Exact.{HasValue}
 use lib.Ieee.Scale.{overflow}
@@ -85,14 +86,11 @@ module _ (f : Format) (m w r H K : ℕ) (H-is : H ≡ hid f) (K-is : K ≡ hid f
   root_finite = rw K-is (finite_at f w r few small)
 
 -- ---- a pattern's root, by its parts
-is_plus : (a b : ℕ) → b < a → leb a b ≡ false
-is_plus a b h = is_false (leb a b) (not_T (leb a b) (λ t. not-le_of_lt h (leb→le a b t)))
-
 pub root_suc : (f : Format) (b x w : ℕ) → b < top f → b % top f / hid f ≡ suc x → suc x < ones f → x + low f ≡ prec f - 1 + w → rooted f (of_bits f b) ≡ root_of f ((hid f + b % hid f) * 2 ^ (prec f - 1 + w))
 root_suc f b x w h e l s =
     let Q = hid f + b % hid f in
     rooted_at f (of_bits f b) (Q * 2 ^ x) (mul-pos (lt_of_lt_of_le (pow_pos (prec f - 1)) (below (hid f) (b % hid f))) (pow_pos x))
-    (subst (λ (t : Bool). HasValue (of_bits f b) t (Q * 2 ^ x) (2 ^ low f)) (is_plus (top f) b h) (decode_suc f b x e l))
+    (subst (λ (t : Bool). HasValue (of_bits f b) t (Q * 2 ^ x) (2 ^ low f)) (lt-leb (top f) b h) (decode_suc f b x e l))
     ∙ ap (λ (z : ℕ). root_of f z) (mul_assoc Q (2 ^ x) (2 ^ low f) ∙ ap (λ (z : ℕ). Q * z) (sym (pow-add 2 x (low f)) ∙ ap (λ (z : ℕ). 2 ^ z) s))
   where
     below : (a b : ℕ) → a ≤ a + b
@@ -101,7 +99,7 @@ root_suc f b x w h e l s =
 pub root_zero : (f : Format) (b z w : ℕ) → b < top f → b % top f / hid f ≡ 0 → 0 < b → b % hid f ≡ b → low f ≡ z + (prec f - 1 + w) → rooted f (of_bits f b) ≡ root_of f (b * 2 ^ z * 2 ^ (prec f - 1 + w))
 root_zero f b z w h e p u s =
     rooted_at f (of_bits f b) (b * 2 ^ 0) (mul-pos p (pow_pos 0))
-    (subst (λ (t : Bool). HasValue (of_bits f b) t (b * 2 ^ 0) (2 ^ low f)) (is_plus (top f) b h) (subst (λ (t : ℕ). HasValue (of_bits f b) (leb (top f) b) (t * 2 ^ 0) (2 ^ low f)) u (decode_zero f b e)))
+    (subst (λ (t : Bool). HasValue (of_bits f b) t (b * 2 ^ 0) (2 ^ low f)) (lt-leb (top f) b h) (subst (λ (t : ℕ). HasValue (of_bits f b) (leb (top f) b) (t * 2 ^ 0) (2 ^ low f)) u (decode_zero f b e)))
     ∙ ap (λ (n : ℕ). root_of f n) (ap (λ (n : ℕ). n * 2 ^ low f) (mul-one b) ∙ ap (λ (n : ℕ). b * n) (ap (λ (n : ℕ). 2 ^ n) s ∙ pow-add 2 z (prec f - 1 + w)) ∙ sym (mul_assoc b (2 ^ z) (2 ^ (prec f - 1 + w))))
 
 -- ---- below zero, at zero and at the infinities

@@ -394,7 +394,7 @@ module _ (f : Format) (s : Bool) (a b : ℕ) (B : 0 < b) where
   most_is = regroup (2 ^ suc (prec f) - 1) (2 ^ (emax f - prec f)) b (2 ^ low f) ∙ ap (λ (x : ℕ). (2 ^ suc (prec f) - 1) * (b * x)) (sym (pow-add 2 (emax f - prec f) (low f)))
     where
       regroup : (x y z w : ℕ) → x * y * z * w ≡ x * (z * (y * w))
-      regroup x y z w = simp (mul_assoc, mul_comm, mul_left_comm)
+      regroup x y z w = simp (mul_assoc, mul_left_comm)
 
   over : Overflows f a b → most ≤ n
   over g = le_trans (le_of_eq (sym most_is)) (mul-le-mul_right (2 ^ low f) g)

@@ -1,5 +1,7 @@
--- IEEE 754-2019, clause 4.3.1, roundTiesToEven: what the rounded value of an exact number ±a / b is, for a b above 0, said without a way to compute it.
--- A value y is ±num y / den y, and distances are compared in natural numbers by multiplying out the divisors. Definitions only.
+-- IEEE 754-2019, clause 4.3.1, roundTiesToEven: what the rounded value of an exact number ±a / b is, for a b above 0,
+-- said without a way to compute it.
+-- A value y is ±num y / den y, and distances are compared in natural numbers by multiplying out the divisors.
+-- Definitions only.
 use Rattle.std.specs.Prelude.{ℕ, suc, ◌+◌, ◌-◌, ◌*◌, ◌%◌, ◌^◌, ◌≤◌, ◌<◌, ◌≡◌, ◌⊎◌, Bool, false, cond, T, Float}
 use Rattle.std.specs.Bool.{beq}
 use Rattle.std.specs.Float.{nan, inf, fin, Format, binary32}
@@ -37,7 +39,8 @@ AsNear s a b v y = distance s a b v * den y ≤ distance s a b y * den v
 abbrev pub Tied : Bool → ℕ → ℕ → Float → Float → Type 0
 Tied s a b v y = distance s a b v * den y ≡ distance s a b y * den v
 
--- The significand of v is the whole number c of prec digits, the last of which counts 2 ^ k smallest values; only a subnormal value, with k = 0, begins with zeros.
+-- The significand of v is the whole number c of prec digits, the last of which counts 2 ^ k smallest values; only a
+-- subnormal value, with k = 0, begins with zeros.
 -- Its least significant digit is even.
 pub record EvenDigit (f : Format) (v : Float) : Type 0 where
   pub c : ℕ
@@ -79,7 +82,8 @@ unfolding narrowed
 NarrowTiesToEven = (x : Float) → T (finite x) → TiesToEven binary32 (sign x) (num x) (den x) (narrowed x)
 
 -- ---- a root that need not be a fraction: the number ρ with ρ ^ j = a / b, for a, b and j above 0
--- v, which is not negative, is nearest to ρ where ρ lies on v's side of each midpoint (v + y) / 2. That is said by the j-th powers.
+-- v, which is not negative, is nearest to ρ where ρ lies on v's side of each midpoint (v + y) / 2. That is said by the
+-- j-th powers.
 
 -- v + y, times den v * den y; 0 where it would be below 0
 abbrev pub total : Float → Float → ℕ

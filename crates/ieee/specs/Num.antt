@@ -1,4 +1,5 @@
--- The float operators under short names: circled at f64, squared at f32. The code's `a * b` at f64 is `a ⊗ b`, at f32 `a ⊠ b`.
+-- The float operators under short names: circled at f64, squared at f32. The code's `a * b` at f64 is `a ⊗ b`, at f32
+-- `a ⊠ b`.
 use Rattle.std.specs.Prelude.{ℕ, pos, Float}
 use Rattle.std.specs.Float.{binary32, binary64}
 use Rattle.std.specs.Float.Ieee.{add, sub, mul, div, of_bits, of_int}

@@ -1,4 +1,5 @@
--- What depends on how two numbers compare: `max` as document 01 has it, Rust's `clamp` and `abs`, and which numbers are finite. One definition serves both formats.
+-- What depends on how two numbers compare: `max` as document 01 has it, Rust's `clamp` and `abs`, and which numbers are
+-- finite. One definition serves both formats.
 use Rattle.std.specs.Prelude.{Bool, true, false, not, cond, ◌≡◌, T, Float}
 use Rattle.std.specs.Float.{nan, inf, fin}
 use Rattle.std.specs.Float.Ieee.{lt, le, ne, is_nan}

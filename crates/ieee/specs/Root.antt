@@ -1,4 +1,5 @@
--- The square root: `rooted f x` is what `ieee::sqrt` answers at either format. `Nearest` says that it is the rounding of IEEE 754.
+-- The square root: `rooted f x` is what `ieee::sqrt` answers at either format. `Nearest` says that it is the rounding
+-- of IEEE 754.
 use Prim.Native.Nat.{ℕ, zero, suc, ◌+◌, ◌-◌, ◌*◌, ◌/◌, ◌^◌, ◌≤◌, ◌<◌, compare}
 use Rattle.std.specs.Prelude.{false, cond, leb, Float}
 use Rattle.std.specs.Float.{nan, inf, fin, Format}
@@ -13,12 +14,14 @@ unfoldable pub isqrt : ℕ → ℕ
 unfolding root_in size
 isqrt n = root_in (size n) n
 
--- r is the whole number nearest to √S, for an S above 0: r (r - 1) < S ≤ r (r + 1), that is, (r - 1/2) ^ 2 < S < (r + 1/2) ^ 2
+-- r is the whole number nearest to √S, for an S above 0: r (r - 1) < S ≤ r (r + 1), that is,
+-- (r - 1/2) ^ 2 < S < (r + 1/2) ^ 2
 abbrev pub Near : ℕ → ℕ → Type 0
 Near S r = (r * r < S + r) × (S ≤ r * r + r)
 
--- The value of the format f that is nearest to √N times f's smallest value. It is `round` at an irrational number: of the root's whole part
--- the format keeps the prec leading digits and drops k, and q moves up by one where √N is above the midpoint (q + 1/2) * 2 ^ k,
+-- The value of the format f that is nearest to √N times f's smallest value. It is `round` at an irrational number: of
+-- the root's whole part the format keeps the prec leading digits and drops k, and q moves up by one where √N is above
+-- the midpoint (q + 1/2) * 2 ^ k,
 -- which is told by the squares, times 4.
 unfoldable pub root_of : Format → ℕ → Float
 unfolding isqrt units size

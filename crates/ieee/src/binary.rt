@@ -35,6 +35,7 @@ pub trait Binary: Copy {
     fn is_nan(self) -> bool
         ensures { result ≡ is_nan (value self) };
 
+    // No conversion: std has a NAN at each type, and no trait that names it.
     fn not_a_number() -> Self
         ensures { value result ≡ nan };
 

@@ -14,6 +14,7 @@ fn shifted(q: u64, sh: u64) -> u64
 }
 
 // The pattern of the f32 nearest to the f64 of the pattern b.
+#[tactic(auto, using(crate::proofs::Narrowing::ways))]
 fn narrow_bits(b: u64) -> u32
     requires { T (not (Ieee.nan_bits binary64 b)) }
     ensures { Ieee.of_bits binary32 result ≡ narrowed (Ieee.of_bits binary64 b) }

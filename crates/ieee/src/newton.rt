@@ -6,6 +6,7 @@ use crate::binary::Binary;
 fn newton<T: Binary>(v: f64, y: f64) -> f64 {
     let h = v * 0.5;
     let mut y = y;
+    // A count of steps: no list is gone over.
     for _ in 0..T::STEPS {
         y = y * (1.5 - h * y * y);
     }

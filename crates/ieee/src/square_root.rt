@@ -22,6 +22,7 @@ fn settle(g: u64, s: u128) -> u64
 }
 
 // The pattern of the root of m * 2^w squared smallest values, times 2^(the digits of m but one).
+#[tactic(auto, using(crate::proofs::Rooting::root_value))]
 fn root_parts<T: Binary>(m: u64, w: u64) -> u64
     requires digits { (hid T.format ≤ m) × (m < 2 ^ prec T.format) }
     requires exponent { w ≤ 3 * emax T.format - 2 }

@@ -1,4 +1,5 @@
--- A spread symbol: what the equaliser is lent may be longer, its parts depend on the row's estimates alone, and so do the likelihoods. Assumes nothing.
+-- A spread symbol: what the equaliser is lent may be longer, its parts depend on the row's estimates alone, and so do
+-- the likelihoods. Assumes nothing.
 use Prim.Native.Nat.{ℕ, ◌+◌, ◌*◌, ◌<◌}
 use mathlib.Core.Path.{◌≡◌, ap, ap₂}
 use mathlib.Core.List.{List, ◌++◌}

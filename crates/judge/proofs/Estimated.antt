@@ -14,7 +14,7 @@ use Rattle.load.specs.Pilots.{listed, Loaded}
 use Rattle.est.specs.declared.combine.Estimate.{Estimate}
 use Rattle.est.specs.Estimator.{without_at}
 use Rattle.est.specs.declared.estimator.Estimator.{Estimator}
-use Rattle.judge.specs.Cells.{symbol_of, carrier_of, index_in, own_by, estimate_by, estimate_for, numbers_of}
+use Rattle.judge.specs.Cells.{symbol_of, carrier_of, index_in, index_of, own_by, estimate_by, estimate_for, numbers_of}
 use Rattle.judge.specs.Fit.{Fits}
 use Rattle.judge.specs.Symbol.{InOrder, fitted_in}
 use Rattle.judge.proofs.Placed.{Placed}
@@ -44,9 +44,9 @@ module _ (s : Source) (e : Estimator) (fit : Fits s e) (cell : ℕ) (at : Placed
     estimated : own ≡ cond (loud_of x s.es) (index_in (λ i. get_or e.pilots.c.now i 0) e.pilots.start.now c g) nowhere
         → r ≡ without_at e c g own
         → r ≡ estimate_for s (listed e.pilots) e.pilots.start.now (fitted_in e) e.rf.now e.rt.now x cell
-    unfolding own_by estimate_by estimate_for
+    unfolding own_by index_of estimate_by estimate_for
     estimated eo er =
-        rw (er, fit.power, eo, ec, eg, index_by_carriers e.pilots.c.now e.pilots.g.now e.pilots.f.now e.pilots.start.now s e.window.nc e.window.ng e.on_grid (carrier_of s cell) (symbol_of s cell) (rw fit.ng at.symbol))
+        rw (er, fit.power, eo, ec, eg, index_by_carriers e.pilots.c.now e.pilots.g.now e.pilots.f.now e.pilots.start.now e.window.nc e.window.ng e.on_grid (carrier_of s cell) (symbol_of s cell) (rw fit.ng at.symbol))
 
     -- its numbers, written over a stretch of three
     pub estimate_written : (l : List Float) → length l ≡ 3

@@ -2,8 +2,8 @@ pub mod Placed
 pub mod Own
 pub mod Laws
 pub mod Finding
-mod Rows
-mod Estimated
+pub mod Rows
+pub mod Estimated
 mod Equalizing
 pub mod Onward
 mod Held

@@ -1,4 +1,5 @@
--- A data cell's own pilot is left out where its own expected value is loud; no other cell's value is looked at. Assumes nothing.
+-- A data cell's own pilot is left out where its own expected value is loud; no other cell's value is looked at.
+-- Assumes nothing.
 use Prim.Native.Nat.{ℕ, ◌+◌, ◌-◌, ◌%◌, ◌<◌}
 use mathlib.Core.Path.{◌≡◌, refl, sym, ap, ◌∙◌}
 use mathlib.Core.Bool.{Bool, true, false, cond}
@@ -19,16 +20,15 @@ use Rattle.load.specs.Fit.{ncell}
 use Rattle.load.specs.Pilots.{pilot_at, pilots, Loaded}
 use Rattle.load.proofs.Counted.{soft_there}
 use Rattle.judge.specs.declared.estimates.Fitted.{Fitted}
-use Rattle.judge.specs.Cells.{symbol_of, carrier_of, is_some, index_in, index_of, own_index, own_by, estimate_at, estimate_for}
+use Rattle.judge.specs.Cells.{symbol_of, carrier_of, is_some, index_in, own_index, own_by, estimate_at, estimate_for}
 use Rattle.judge.specs.Fit.{FitCells}
 use Rattle.judge.proofs.Placed.{placed}
 use Rattle.judge.proofs.Finding.{find_same}
 
 -- the carriers alone say which pilot it is
-pub index_by_carriers : (pc pg : List ℕ) (pf : List Float) (start : List ℕ) (s : Source) (nc ng : ℕ) → Loaded pc pg pf start nc ng (length pc) → (c g : ℕ) → g < ng
-    → index_in (λ i. get_or pc i 0) start c g ≡ index_of s (pilots pc pg pf (length pc)) start c g
-unfolding index_of
-index_by_carriers pc pg pf start s nc ng l c g h =
+pub index_by_carriers : (pc pg : List ℕ) (pf : List Float) (start : List ℕ) (nc ng : ℕ) → Loaded pc pg pf start nc ng (length pc) → (c g : ℕ) → g < ng
+    → index_in (λ i. get_or pc i 0) start c g ≡ index_in (λ i. (get_or (pilots pc pg pf (length pc)) i nothing).c) start c g
+index_by_carriers pc pg pf start nc ng l c g h =
     find_same (get_or start (g + 1) 0 - get_or start g 0) (get_or start g 0) (λ i. eqb (get_or pc i 0) c) (λ i. eqb (get_or (pilots pc pg pf (length pc)) i nothing).c c)
     (λ k b. ap (λ (p : Pilot). eqb p.c c) (sym (get_d_tab (pilot_at pc pg pf) (length pc) k nothing
     (omega (arith, l.order g (g + 1) (omega arith) (omega arith), l.order (g + 1) ng (omega arith) (omega arith), l.whole)))))

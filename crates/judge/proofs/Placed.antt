@@ -3,8 +3,6 @@ use Prim.Native.Nat.{ℕ, ◌+◌, ◌-◌, ◌*◌, ◌/◌, ◌%◌, ◌≤◌
 use mathlib.Core.Path.{◌≡◌, ◌∙◌}
 use native.Mathlib.Nat.{mod-lt, div-lt_iff_lt-mul, div-add-mod', mul-add-div_right, mul-add-mod_self_right, div-eq_of_lt, mod-eq_of_lt, mul-le-mul, mul_assoc}
 use native.Mathlib.Omega.{arith}
-use mir.Syntax.{w64}
-use mir.Val.{Fits}
 use Rattle.seq.specs.Cat.Laws.{stretch}
 use Rattle.layout.specs.Maps.{carriers_at}
 use Rattle.load.specs.declared.found.Source.{Source}
@@ -21,20 +19,6 @@ pub record Placed (s : Source) (cell : ℕ) : Type 0 where
   pub carrier : carrier_of s cell < s.map.nc
   pub place : symbol_of s cell * s.map.nc + carrier_of s cell < places s
   pub same : cell_of s (symbol_of s cell) (cell % s.dc) ≡ cell
-
--- what the code computes to lend stretch k, of w numbers of four bytes, fits a word
-pub record Lent (k w : ℕ) : Type 0 where
-  pub wide : Fits w64 w
-  pub from : Fits w64 (k * w)
-  pub to : Fits w64 (k * w + w)
-  pub offset : Fits w64 (k * w * 4)
-  pub forward : k * w ≤ k * w + w
-
-pub lending : (k w : ℕ) → k * w + w ≤ 708936 → Lent k w
-lending k w h = omega arith
-
-pub cell_lent : (j dc w : ℕ) → j < dc → dc ≤ 109 → w ≤ 6 → Lent j w
-cell_lent j dc w h b b' = lending j w (omega (arith, stretch j dc w 654 h (mul-le-mul b b')))
 
 pub few_carriers : (s : Source) → FitCells s → s.dc ≤ 109
 unfolding carriers_at
@@ -77,9 +61,6 @@ module _ (s : Source) (fit : FitCells s) where
   -- its stretch of a list that has w numbers a cell
   pub row_within : (t w n : ℕ) → s.map.hdr_end + t < s.ng → ncell s * w ≤ n → t * (s.dc * w) + s.dc * w ≤ n
   row_within t w n ht h = stretch t (s.ng - s.map.hdr_end) (s.dc * w) n (omega arith) (rw mul_assoc at h)
-
-  pub row_lent : (t w : ℕ) → s.map.hdr_end + t < s.ng → w ≤ 6 → Lent t (s.dc * w)
-  row_lent t w ht h = lending t (s.dc * w) (row_within t w 708936 ht (mul-le-mul (few_cells s fit) h))
 
   pub row_all : (t : ℕ) → s.map.hdr_end + t < s.ng → t * s.dc + s.dc ≤ ncell s
   row_all t ht = stretch t (s.ng - s.map.hdr_end) s.dc (ncell s) (omega arith) (omega arith)

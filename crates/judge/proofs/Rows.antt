@@ -8,10 +8,8 @@ use native.Mathlib.Omega.{arith}
 use lib.ListN.{length, take, drop, get_or, drop_of_length-le}
 use lib.Seq.{get_or-take, get_or-drop, drop_at}
 use lib.Ieee.{Float, nan}
-use mir.Syntax.{w64}
-use mir.Val.{Fits}
 use Rattle.seq.specs.Cat.{cat}
-use Rattle.seq.specs.Cat.Laws.{stretch, length_cat, cat_more, lent, returned, cat_rows}
+use Rattle.seq.specs.Cat.Laws.{length_cat, cat_more, returned, cat_rows}
 use Rattle.dsp.specs.Arithmetic.{complex}
 use Rattle.load.specs.Find.{mean_at}
 
@@ -25,20 +23,6 @@ returned_to w k l xs = take (k * w) l ++ (xs ++ drop (k * w + w - k * w) (drop (
 -- all of a list was written
 pub whole : (n : ℕ) (xs l : List Float) → length l ≡ n → xs ++ drop n l ≡ xs
 whole n xs l e = ap (λ (r : List Float). xs ++ r) (drop_of_length-le l {i = n} (omega arith)) ∙ append-nil xs
-
--- part j of n lies within the list
-pub row_inside : (j n w : ℕ) (l m : List Float) → j < n → length l ≡ n * w → length m ≡ length l → j * w + w ≤ length m
-row_inside j n w l m b e e' = omega (arith, stretch j n w (length l) b (omega arith))
-
-pub lent_long : (j w : ℕ) (m : List Float) → j * w + w ≤ length m → w ≤ length (lent_of w j m)
-lent_long j w m h = omega (arith, lent (j * w) w m h)
-
--- turn j of n, and two numbers of it
-pub next_fits : {j n : ℕ} → j < n → n ≤ 109 → Fits w64 (j + 1)
-next_fits b h = omega arith
-
-pub two_within : {j dc n : ℕ} → j < dc → 2 * dc ≤ n → 2 * j + 1 < n
-two_within b h = omega arith
 
 module _ (w : ℕ) (f : ℕ → List Float) (h : (j : ℕ) → length (f j) ≡ w) where
   -- the stretch of part j came back as that part

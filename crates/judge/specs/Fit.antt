@@ -1,6 +1,8 @@
 -- What estimating and judging may count on.
 use Rattle.std.specs.Prelude.{ℕ, ◌*◌, ◌≤◌, ◌≡◌, List, length, Float}
-use Rattle.layout.specs.Fit.{FitMap}
+use Rattle.std.proofs.Props.{props}
+use Rattle.layout.specs.declared.map.Map.{Map}
+use Rattle.layout.specs.Fit.{FitMap, FitPhases}
 use Rattle.layout.specs.Maps.{carriers_at}
 use Rattle.spread.specs.Spreader.{twiddles_of}
 use Rattle.load.specs.declared.found.Source.{Source}
@@ -22,6 +24,20 @@ pub record Fits (s : Source) (e : Estimator) : Type 0 where
   pub nc : e.window.nc ≡ s.map.nc
   pub ng : e.window.ng ≡ s.ng
   pub power : e.p_h ≡ s.p_h
+
+-- no two proofs of it differ, so a ghost field can hold it
+FitPhases-prop : (nc : ℕ) → IsProp (FitPhases nc)
+unfolding FitPhases
+FitPhases-prop nc = Prim.hlevel props
+
+FitMap-prop : (m : Map) → IsProp (FitMap m)
+FitMap-prop m = Prim.hlevel (props, FitPhases-prop)
+
+FitCells-prop : (s : Source) → IsProp (FitCells s)
+FitCells-prop s = Prim.hlevel (props, FitMap-prop)
+
+pub Fits-prop : (s : Source) (e : Estimator) → IsProp (Fits s e)
+Fits-prop s e = Prim.hlevel (props, FitCells-prop)
 
 -- what the equaliser reads besides
 pub record FitSpread (s : Source) (sp : Spreader) (soft : List Float) : Type 0 where

@@ -17,11 +17,13 @@ use Rattle.equalize.specs.Answer.{Answer}
 use Rattle.equalize.specs.Sic.{sic_of}
 use Rattle.judge.specs.Cells.{sample_of}
 
--- est::demap(y, hbuf[cell], mbuf[cell], self.cell_s2[cell], &pts_s, ..); e is the estimate at the cell, and pts are scaled
+-- est::demap(y, hbuf[cell], mbuf[cell], self.cell_s2[cell], &pts_s, ..)
+-- e is the estimate at the cell, and pts are scaled
 unfoldable pub demapped : Source → List Float → ℕ → List Float → List Float → ℕ → Estimate → List Float
 demapped s pts bps grid cells cell e = likelihoods (record { y = sample_of s grid cell; h = e.h; mse = e.mse; sigma2 = get_or cells cell nan }) pts bps
 
--- ---- symbol t of a spread burst: row j is hbuf[base + j] and mbuf[base + j], with base = t * dc, and pts are not scaled
+-- ---- symbol t of a spread burst: row j is hbuf[base + j] and mbuf[base + j], with base = t * dc;
+-- pts are not scaled
 
 -- ya[j] = y
 unfoldable pub ya : Source → List Float → ℕ → List Float
@@ -35,7 +37,8 @@ ha dc row = cat dc (λ j. flat (row j).h)
 unfoldable pub va : ℕ → Float → List Float → (ℕ → Estimate) → ℕ → List Float
 va dc gain cells row t = tab dc (λ j. get_or cells (t * dc + j) nan ⊞ (row j).mse ⊠ (gain ⊠ gain))
 
--- let (mu, var) = sic(&ya[..dc], &hbuf[base..base + dc], &va[..dc], gain, &em[base..base + dc], ev[g - pre], z, &mut sp); soft has em and what ev is made of
+-- let (mu, var) = sic(&ya[..dc], &hbuf[base..base + dc], &va[..dc], gain, &em[base..base + dc], ev[g - pre], z, &mut sp);
+-- soft has em and what ev is made of
 unfoldable pub equalized : Source → Float → List Float → List Float → List Float → (ℕ → Estimate) → ℕ → Answer Equalized
 equalized s gain soft grid cells row t =
     sic_of s.dc (twiddles_of s.dc) (ya s grid t) (ha s.dc row) (va s.dc gain cells row t) gain (row_means s.dc soft t) (row_variance s.dc soft t)

@@ -1,4 +1,5 @@
--- How far a burst is judged: channel and answer hold the first n cells' numbers, and past them what they held as judging began, the expected values e and a.
+-- How far a burst is judged: channel and answer hold the first n cells' numbers, and past them what they held as
+-- judging began, the expected values e and a.
 use Rattle.std.specs.Prelude.{ℕ, ◌*◌, ◌≡◌, List, ◌++◌, drop, Float}
 use Rattle.seq.specs.Cat.{cat}
 use Rattle.load.specs.declared.pilot.Pilot.{Pilot}

@@ -5,15 +5,12 @@ ghost use Rattle.load.specs.Find.{mean_at};
 ghost use Rattle.load.specs.Fit.{ncell};
 ghost use Rattle.load.specs.Load.{nowhere};
 ghost use Rattle.soft.specs.Soft.{loud_of};
-ghost use Rattle.judge.specs.Fit.{Fits};
 ghost use Rattle.judge.specs.Cells.{index_in, numbers_of};
 ghost use Rattle.judge.specs.Symbol.{InOrder, estimate_with};
 
 use crate::Judge;
-use crate::places::{carrier_of, symbol_of};
 use dsp::Complex;
 use est::Scales;
-use load::Pilots;
 use near::{Window, start_of};
 use soft::loud;
 
@@ -25,15 +22,17 @@ pub struct Fitted {
     pub scale: f32,
 }
 
-// est.rs, `pilot_index`: which of the pilots of symbol g is that of carrier c.
-pub fn pilot_index(ps: &Pilots, c: usize, g: usize) -> Option<usize>
-    requires { InOrder ps.now g }
-    ensures { unwrap_or result nowhere ≡ index_in (λ i. get_or ps.now.c.now i 0) ps.now.start.now c g }
+// est.rs, `pilot_index`: which of the pilots of symbol g is that of carrier c. It reads two of their lists, and asks
+// nothing of the others.
+pub fn pilot_index(carriers: &[u32], start: &[u32], c: usize, g: usize) -> Option<usize>
+    requires { (g + 1 < length start.now) × (get_or start.now g 0 ≤ get_or start.now (g + 1) 0) × (get_or start.now (g + 1) 0 ≤ length carriers.now) }
+    ensures { unwrap_or result nowhere ≡ index_in (λ i. get_or carriers.now i 0) start.now c g }
 {
-    let lo = start_of(ps.start, g);
-    let hi = start_of(ps.start, g + 1);
+    let lo = start_of(start, g);
+    let hi = start_of(start, g + 1);
+    // The number is the answer.
     for i in lo..hi {
-        if ps.c[i] as usize == c {
+        if carriers[i] as usize == c {
             return Some(i);
         }
     }
@@ -47,21 +46,21 @@ impl Judge<'_> {
         ensures { unwrap_or result nowhere ≡ cond (loud_of x self.now.source.es) (index_in (λ i. get_or self.now.estimator.pilots.c.now i 0) self.now.estimator.pilots.start.now c g) nowhere }
     {
         if loud(x, self.source.es) {
-            pilot_index(&self.estimator.pilots, c, g)
+            pilot_index(self.estimator.pilots.c, self.estimator.pilots.start, c, g)
         } else {
             None
         }
     }
 
     // The cell whose expected value and variance are in `out`, which receives the estimate and its error.
+    #[tactic(auto, using(crate::proofs::Held::estimable))]
     fn estimate_cell(&self, cell: usize, out: &mut [f32])
-        requires fits { Fits self.now.source self.now.estimator }
         requires cell { cell < ncell self.now.source }
         requires three { length out.old ≡ 3 }
         ensures { out.new ≡ numbers_of (estimate_with self.now (mean_at out.old 0) cell) }
     {
-        let c = carrier_of(self.source, cell);
-        let g = symbol_of(self.source, cell);
+        let c = self.carrier_of(cell);
+        let g = self.symbol_of(cell);
         let own = self.own_index(Complex::new(out[0], out[1]), c, g);
         let e = self.estimator.estimate_without(c, g, own);
         out[0] = e.h.re;
@@ -70,13 +69,15 @@ impl Judge<'_> {
     }
 
     // The cells of data symbol t.
+    #[tactic(auto, using(crate::proofs::Held::numbered))]
     pub(crate) fn estimate_row(&self, t: usize, row: &mut [f32])
-        requires fits { Fits self.now.source self.now.estimator }
         requires symbol { self.now.source.map.hdr_end + t < self.now.source.ng }
         requires row { length row.old ≡ self.now.source.dc * 3 }
         ensures { row.new ≡ cat self.now.source.dc (λ j. numbers_of (estimate_with self.now (mean_at row.old j) (t * self.now.source.dc + j))) }
     {
         let dc = self.source.dc;
+        // By number, here and where rows are demapped: tried, of what `chunks_exact_mut` has written a proof knows
+        // the length alone.
         for j in 0..dc {
             let at = j * 3;
             let out = &mut row[at..at + 3];

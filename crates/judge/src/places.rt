@@ -1,32 +1,39 @@
 // Where a data cell lies, by its number, and what was received there.
-ghost use Rattle.std.specs.Prelude.{◌≡◌, ◌*◌, ◌≤◌, ◌<◌, length};
-ghost use Rattle.load.specs.Fit.{ncell, places};
-ghost use Rattle.judge.specs.Fit.{FitCells};
+ghost use Rattle.std.specs.Prelude.{◌≡◌, ◌<◌};
+ghost use Rattle.load.specs.Fit.{ncell};
 ghost use Rattle.judge.specs.Cells.{symbol_of, carrier_of, sample_of};
 
+use crate::Judge;
 use dsp::Complex;
-use load::{Source, sample};
 
-pub fn symbol_of(s: Source, cell: usize) -> usize
-    requires { FitCells s × (cell < ncell s) }
-    ensures { result ≡ symbol_of s cell }
-{
-    let m = s.map;
-    m.hdr_end + cell / s.dc
-}
+impl Judge<'_> {
+    #[tactic(auto, using(crate::proofs::Held::in_grid))]
+    pub(crate) fn symbol_of(&self, cell: usize) -> usize
+        requires { cell < ncell self.now.source }
+        ensures { result ≡ symbol_of self.now.source cell }
+    {
+        let m = self.source.map;
+        m.hdr_end + cell / self.source.dc
+    }
 
-pub fn carrier_of(s: Source, cell: usize) -> usize
-    requires { FitCells s × (cell < ncell s) }
-    ensures { result ≡ carrier_of s cell }
-{
-    let m = s.map;
-    m.data_carrier(symbol_of(s, cell), cell % s.dc)
-}
+    #[tactic(auto, using(crate::proofs::Held::data_cell))]
+    pub(crate) fn carrier_of(&self, cell: usize) -> usize
+        requires { cell < ncell self.now.source }
+        ensures { result ≡ carrier_of self.now.source cell }
+    {
+        let m = self.source.map;
+        m.data_carrier(self.symbol_of(cell), cell % self.source.dc)
+    }
 
-pub fn sample_of(s: Source, grid: &[f32], cell: usize) -> Complex
-    requires { FitCells s × (cell < ncell s) × (2 * places s ≤ length grid.now) }
-    ensures { result ≡ sample_of s grid.now cell }
-{
-    let m = s.map;
-    sample(grid, symbol_of(s, cell) * m.nc + carrier_of(s, cell))
+    #[tactic(auto, using(crate::proofs::Held::in_grid))]
+    pub(crate) fn sample_of(&self, cell: usize) -> Complex
+        requires { cell < ncell self.now.source }
+        ensures { result ≡ sample_of self.now.source self.now.grid.now cell }
+    {
+        let m = self.source.map;
+        Complex::at(
+            self.grid,
+            self.symbol_of(cell) * m.nc + self.carrier_of(cell),
+        )
+    }
 }

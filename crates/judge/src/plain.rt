@@ -2,12 +2,10 @@
 ghost use Rattle.std.specs.Prelude.{◌≡◌, ◌+◌, ◌*◌, ◌≤◌, ◌<◌, length};
 ghost use Rattle.seq.specs.Cat.{cat};
 ghost use Rattle.load.specs.Fit.{ncell};
-ghost use Rattle.judge.specs.Fit.{Fits};
 ghost use Rattle.judge.specs.Cells.{estimate_in};
 ghost use Rattle.judge.specs.Symbol.{demapped_by};
 
 use crate::Judge;
-use crate::places::sample_of;
 use demap::{Cell, demap};
 use dsp::Complex;
 use est::Estimate;
@@ -25,13 +23,12 @@ fn estimate_in(row: &[f32], j: usize) -> Estimate
 
 impl Judge<'_> {
     fn demap_cell(&self, cell: usize, e: Estimate, out: &mut [f32])
-        requires fits { Fits self.now.source self.now.estimator }
         requires cell { cell < ncell self.now.source }
         requires out { length out.old ≡ self.now.shape.bps }
         ensures { out.new ≡ demapped_by self.now cell e }
     {
         let c = Cell {
-            y: sample_of(self.source, self.grid, cell),
+            y: self.sample_of(cell),
             h: e.h,
             mse: e.mse,
             sigma2: self.cells[cell],
@@ -40,14 +37,15 @@ impl Judge<'_> {
     }
 
     // Data symbol t, of the estimates in `row`.
+    #[tactic(auto, using(crate::proofs::Held::numbered, crate::proofs::Held::parted))]
     pub(crate) fn demap_row(&self, t: usize, row: &[f32], out: &mut [f32])
-        requires fits { Fits self.now.source self.now.estimator }
         requires symbol { self.now.source.map.hdr_end + t < self.now.source.ng }
         requires lengths { (length row.now ≡ self.now.source.dc * 3) × (length out.old ≡ self.now.source.dc * self.now.shape.bps) }
         ensures { out.new ≡ cat self.now.source.dc (λ j. demapped_by self.now (t * self.now.source.dc + j) (estimate_in row.now j)) }
     {
         let dc = self.source.dc;
         let bps = self.shape.bps;
+        // By number, as in `estimate_row`.
         for j in 0..dc {
             let at = j * bps;
             let stretch = &mut out[at..at + bps];

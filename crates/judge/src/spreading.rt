@@ -2,107 +2,108 @@
 ghost use Rattle.std.specs.Prelude.{◌≡◌, true, ◌++◌, ◌+◌, ◌*◌, ◌≤◌, ◌<◌, length, drop};
 ghost use Rattle.seq.specs.Cat.{cat};
 ghost use Rattle.equalize.specs.Answer.{Equalizes};
-ghost use Rattle.judge.specs.Fit.{Fits};
 ghost use Rattle.judge.specs.Cells.{estimate_in};
 ghost use Rattle.judge.specs.Judge.{ya, ha, va, answer_of, despread};
 ghost use Rattle.judge.specs.Symbol.{equalized_by};
 
 use crate::Judge;
-use crate::places::sample_of;
 use demap::{Cell, demap};
 use dsp::Complex;
-use equalize::{Equalized, Received, sic};
+use equalize::{Equalized, ReceivedSymbol, sic};
 use expect::{row_means, row_variance};
-use points::Points;
-
-// The estimates of a row, without their errors.
-fn channels(dc: usize, row: &[f32], h: &mut [f32])
-    requires { (dc ≤ 109) × (length row.now ≡ dc * 3) × (2 * dc ≤ length h.old) }
-    ensures { h.new ≡ ha dc (estimate_in row.now) ++ drop (2 * dc) h.old }
-{
-    for j in 0..dc {
-        h[2 * j] = row[3 * j];
-        h[2 * j + 1] = row[3 * j + 1];
-    }
-}
-
-// Noise and the errors of the estimates at the cells of data symbol t.
-fn variances(dc: usize, gain: f32, t: usize, cells: &[f32], row: &[f32], v: &mut [f32])
-    requires { (dc ≤ 109) × (t * dc + dc ≤ length cells.now) × (length row.now ≡ dc * 3) × (dc ≤ length v.old) }
-    ensures { v.new ≡ va dc gain cells.now (estimate_in row.now) t ++ drop dc v.old }
-{
-    let g2 = gain * gain;
-    let base = t * dc;
-    for j in 0..dc {
-        v[j] = cells[base + j] + row[3 * j + 2] * g2;
-    }
-}
-
-// The symbols in z, which have the gain e.mu and the noise variance e.var.
-fn despread_cells(dc: usize, e: Equalized, pts: &Points, z: &[f32], out: &mut [f32])
-    requires { (dc ≤ 109) × (2 * dc ≤ length z.now) × (length out.old ≡ dc * pts.now.bps) }
-    ensures { out.new ≡ cat dc (despread pts.now.pts pts.now.bps (answer_of e z.now)) }
-{
-    let bps = pts.bps;
-    for j in 0..dc {
-        let c = Cell {
-            y: Complex::at(z, j),
-            h: Complex::new(e.mu, 0.0),
-            mse: 0.0,
-            sigma2: e.var,
-        };
-        let at = j * bps;
-        demap(c, pts, &mut out[at..at + bps]);
-    }
-}
 
 impl Judge<'_> {
     // What was received at the cells of data symbol t.
+    #[tactic(auto, using(crate::proofs::Held::numbered))]
     fn samples(&self, t: usize, y: &mut [f32])
-        requires fits { Fits self.now.source self.now.estimator }
         requires symbol { self.now.source.map.hdr_end + t < self.now.source.ng }
         requires y { 2 * self.now.source.dc ≤ length y.old }
         ensures { y.new ≡ ya self.now.source self.now.grid.now t ++ drop (2 * self.now.source.dc) y.old }
     {
         let dc = self.source.dc;
+        // j numbers the cell and its place in y.
         for j in 0..dc {
-            let x = sample_of(self.source, self.grid, t * dc + j);
-            y[2 * j] = x.re;
-            y[2 * j + 1] = x.im;
+            self.sample_of(t * dc + j).put(y, j);
+        }
+    }
+
+    // The estimates of a row, without their errors.
+    fn channels(&self, row: &[f32], h: &mut [f32])
+        requires { (length row.now ≡ self.now.source.dc * 3) × (2 * self.now.source.dc ≤ length h.old) }
+        ensures { h.new ≡ ha self.now.source.dc (estimate_in row.now) ++ drop (2 * self.now.source.dc) h.old }
+    {
+        // j is a place in both lists.
+        for j in 0..self.source.dc {
+            Complex::new(row[3 * j], row[3 * j + 1]).put(h, j);
+        }
+    }
+
+    // Noise and the errors of the estimates at the cells of data symbol t.
+    fn variances(&self, t: usize, row: &[f32], v: &mut [f32])
+        requires symbol { self.now.source.map.hdr_end + t < self.now.source.ng }
+        requires lengths { (length row.now ≡ self.now.source.dc * 3) × (self.now.source.dc ≤ length v.old) }
+        ensures { v.new ≡ va self.now.source.dc self.now.shape.gain self.now.cells.now (estimate_in row.now) t ++ drop self.now.source.dc v.old }
+    {
+        let dc = self.source.dc;
+        let gain = self.shape.gain;
+        let g2 = gain * gain;
+        let base = t * dc;
+        // j is a place in three lists.
+        for j in 0..dc {
+            v[j] = self.cells[base + j] + row[3 * j + 2] * g2;
         }
     }
 
     // Data symbol t equalised, into z.
+    #[tactic(auto, using(crate::proofs::Held::narrow, crate::proofs::Held::spans))]
     fn equalize_row(&self, t: usize, row: &[f32], z: &mut [f32]) -> Equalized
-        requires fits { Fits self.now.source self.now.estimator }
         requires spread { self.now.shape.spread ≡ true }
         requires symbol { self.now.source.map.hdr_end + t < self.now.source.ng }
         requires lengths { (length row.now ≡ self.now.source.dc * 3) × (2 * self.now.source.dc ≤ length z.old) }
         ensures { Equalizes self.now.source.dc (equalized_by self.now (estimate_in row.now) t) result z.old z.new }
     {
         let dc = self.source.dc;
-        let gain = self.shape.gain;
         let mut y = [0f32; 218];
         self.samples(t, &mut y);
         let mut h = [0f32; 218];
-        channels(dc, row, &mut h);
+        self.channels(row, &mut h);
         let mut v = [0f32; 109];
-        variances(dc, gain, t, self.cells, row, &mut v);
+        self.variances(t, row, &mut v);
         let mut xm = [0f32; 218];
         row_means(dc, self.soft, t, &mut xm);
         let vx = row_variance(dc, self.soft, t);
-        let r = Received {
+        let r = ReceivedSymbol {
             y: &y,
             h: &h,
             v: &v,
-            gain,
+            gain: self.shape.gain,
         };
         sic(self.spreader, &r, &xm, vx, z)
     }
 
+    // The symbols in z, which have the gain e.mu and the noise variance e.var.
+    #[tactic(auto, using(crate::proofs::Held::parted))]
+    fn despread_cells(&self, e: Equalized, z: &[f32], out: &mut [f32])
+        requires { (2 * self.now.source.dc ≤ length z.now) × (length out.old ≡ self.now.source.dc * self.now.shape.bps) }
+        ensures { out.new ≡ cat self.now.source.dc (despread self.now.points.now.pts self.now.shape.bps (answer_of e z.now)) }
+    {
+        let bps = self.shape.bps;
+        // By number, as in `estimate_row`.
+        for j in 0..self.source.dc {
+            let c = Cell {
+                y: Complex::at(z, j),
+                h: Complex::new(e.mu, 0.0),
+                mse: 0.0,
+                sigma2: e.var,
+            };
+            let at = j * bps;
+            demap(c, self.points, &mut out[at..at + bps]);
+        }
+    }
+
     // Data symbol t, of the estimates in `row`.
+    #[tactic(auto, using(crate::proofs::Held::narrow))]
     pub(crate) fn despread_row(&self, t: usize, row: &[f32], out: &mut [f32])
-        requires fits { Fits self.now.source self.now.estimator }
         requires spread { self.now.shape.spread ≡ true }
         requires symbol { self.now.source.map.hdr_end + t < self.now.source.ng }
         requires lengths { (length row.now ≡ self.now.source.dc * 3) × (length out.old ≡ self.now.source.dc * self.now.shape.bps) }
@@ -110,6 +111,6 @@ impl Judge<'_> {
     {
         let mut z = [0f32; 218];
         let e = self.equalize_row(t, row, &mut z);
-        despread_cells(self.source.dc, e, self.points, &z, out);
+        self.despread_cells(e, &z, out);
     }
 }

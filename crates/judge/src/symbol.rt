@@ -1,7 +1,7 @@
 // What the data symbols of a burst are judged by, and one of them judged.
 ghost use Rattle.std.specs.Prelude.{◌≡◌, ◌*◌, ◌≤◌, true, length};
 ghost use Rattle.load.specs.Fit.{ncell, places};
-ghost use Rattle.judge.specs.Fit.{FitSpread};
+ghost use Rattle.judge.specs.Fit.{FitSpread, Fits, Fits-prop};
 
 use est::Estimator;
 use expect::Shape;
@@ -9,9 +9,10 @@ use load::Source;
 use points::Points;
 use spread::Spreader;
 
-// Where the cells lie and how they were sent, the estimator, the points that likelihoods are about, what spreads a symbol, the soft points of a
-// spread burst, and what was received: the grid, and the variances of its data cells. `Fits` is a clause and no ghost field: of its facts about
-// phases the check does not find that two proofs are one.
+// Where the cells lie and how they were sent, the estimator, the points that likelihoods are about, what spreads a
+// symbol, the soft points of a spread burst, and what was received: the grid, and the variances of its data cells.
+// What bounds a method's own arguments stays a clause: t is a data symbol of the grid, `cell` a data cell, a row has
+// three numbers for each cell of a symbol.
 #[derive(Clone, Copy)]
 pub struct Judge<'a> {
     pub source: Source,
@@ -22,6 +23,7 @@ pub struct Judge<'a> {
     pub soft: &'a [f32],
     pub grid: &'a [f32],
     pub cells: &'a [f32],
+    ghost fits: { Fits source estimator } by { Fits-prop source estimator },
     ghost bits: { points.now.bps ≡ shape.bps },
     ghost spreads: { shape.spread ≡ true → FitSpread source spreader.now soft.now },
     ghost in_grid: { 2 * places source ≤ length grid.now },
@@ -31,13 +33,12 @@ pub struct Judge<'a> {
 impl Judge<'_> {
     ghost use Rattle.std.specs.Prelude.{◌+◌, ◌*◌, ◌<◌, ◌≤◌, List, length, Float};
     ghost use Rattle.load.specs.Fit.{ncell};
-    ghost use Rattle.judge.specs.Fit.{Fits};
     ghost use Rattle.judge.specs.Symbol.{JudgedUpto};
 
-    // Data symbol t. The channel list holds the expected values of its cells, and then their estimates. Past the symbol's own
-    // numbers channel and answer are left as they are.
+    // Data symbol t. The channel list holds the expected values of its cells, and then their estimates. Past the
+    // symbol's own numbers channel and answer are left as they are.
+    #[tactic(auto, using(crate::proofs::Held::spans))]
     pub fn symbol(&self, t: usize, channel: &mut [f32], answer: &mut [f32])
-        requires fits { Fits self.now.source self.now.estimator }
         requires symbol { self.now.source.map.hdr_end + t < self.now.source.ng }
         requires room { (ncell self.now.source * 3 ≤ length channel.old) × (ncell self.now.source * self.now.shape.bps ≤ length answer.old) }
         ensures { (e a : List Float) → JudgedUpto self.now (t * self.now.source.dc) e a channel.old answer.old → JudgedUpto self.now (t * self.now.source.dc + self.now.source.dc) e a channel.new answer.new }

@@ -1,4 +1,5 @@
--- The data cells of a symbol: the pilot rule is a comb and the top carrier, so their number and their places are the comb's. Assumes nothing.
+-- The data cells of a symbol: the pilot rule is a comb and the top carrier, so their number and their places are the
+-- comb's. Assumes nothing.
 use Rattle.std.proofs.Common.{◌≡◌, ℕ, ◌+◌, ◌-◌, ◌*◌, ◌/◌, ◌%◌, ◌<◌, ◌≤◌, Bool, true, false, cond, T, [], ◌∷◌, length, sym, refl, ap, ◌∙◌, subst, mod-eq_of_lt, div-add-mod', arith, le-ltb, lt-ltb, eq-eqb, ne_eqb}
 use native.Mathlib.Nat.{div-lt_self}
 use lib.Ieee.{Float}
@@ -103,6 +104,10 @@ module _ (m : Map) (fit : FitMap m) (g : ℕ) (from : 1 ≤ g) where
   pub carrier_fits : (j : ℕ) → j < carriers_at m g → s ≤ j → j + 1 + (j - s) / (step - 1) < m.nc
   carrier_fits j h l = rw (carrier_high j h l) (cells.within j h)
 
+  pub carrier_few : (j : ℕ) → j < carriers_at m g → j + 1 ≤ 109
+  unfolding carriers_at
+  carrier_few j h = omega (arith, fit.few)
+
   -- a data carrier is below the top, and no tooth
   module _ (c : ℕ) (h : c < m.nc) (o : is_pilot m c g ≡ false) where
     under : c < m.nc - 1
@@ -126,6 +131,9 @@ module _ (m : Map) (fit : FitMap m) (g : ℕ) (from : 1 ≤ g) where
     index_takes l =
         let n : c ≡ s → ⊥ = λ e. off (ap (λ (z : ℕ). z % step) e ∙ mod-eq_of_lt low) in
         omega (arith, div-lt_self {n = c - s} {k = step} (omega arith) two)
+
+    pub index_above : s ≤ c → 1 ≤ c
+    index_above l = (index_takes l).0
 
 -- ---- the nine layouts
 

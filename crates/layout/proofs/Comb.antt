@@ -1,4 +1,5 @@
--- A comb has a tooth at s, at s + step, and so on. How many numbers stand between its teeth before c, and which is the j-th. Assumes nothing.
+-- A comb has a tooth at s, at s + step, and so on. How many numbers stand between its teeth before c, and which is the
+-- j-th. Assumes nothing.
 use Rattle.std.proofs.Common.{◌≡◌, ℕ, zero, suc, ◌+◌, ◌-◌, ◌*◌, ◌/◌, ◌%◌, ◌<◌, ◌≤◌, min, Bool, true, false, eqb, List, [], length, sym, ap, ◌∙◌, mul-le-mul_right, mod-lt, mod-eq_of_lt, suc-mul, div-lt_iff_lt-mul, add-mul, div-add-mod', mul-suc, add-one, arith, length-append, eq-eqb, ne_eqb}
 use native.Mathlib.Nat.{mul-add-mod_self_right, div-eq_of_lt, div-eq_of_lt-le}
 use native.Mathlib.Decide.{dec_lt}

@@ -1,6 +1,8 @@
 -- The nine layouts fit, and so does what is made of a layout that fits. Assumes nothing.
-use Rattle.std.proofs.Common.{ℕ, ◌-◌, ◌≤◌, Bool, true, false, cond, ltb, div-le_self, sub-le, arith}
-use lib.Ieee.{Float}
+use Rattle.std.proofs.Common.{ℕ, ◌-◌, ◌*◌, ◌≤◌, Bool, true, false, cond, T, ltb, div-le_self, sub-le, mul-le-mul, arith}
+use lib.IntN.{pos}
+use lib.Ieee.{Float, binary32, in_float}
+use Rattle.ieee.proofs.Floats.{counted}
 use Rattle.layout.specs.declared.pattern.Pattern.{Pattern}
 use Rattle.layout.specs.declared.layouts.Layout.{Layout}
 use Rattle.layout.specs.declared.map.Map.{Map}
@@ -45,3 +47,11 @@ pilots_le p nc f = omega (arith, div-le_self (nc - 1) p.step)
 pub carriers_le : (l : Layout) (sparse : Bool) → data_carriers_of l sparse ≤ l.nc
 unfolding data_carriers_of
 carriers_le l sparse = sub-le l.nc (pilots_of (pattern_of l sparse) l.nc)
+
+-- nor more than 109 data carriers in each of the symbols
+pub cells_le : (l : Layout) → FitSizes l → (sparse : Bool) (nsym : ℕ) → nsym ≤ 1023 → nsym * data_carriers_of l sparse ≤ 1023 * 109
+cells_le l f sparse nsym h = let few : data_carriers_of l sparse ≤ 109 = omega (arith, carriers_le l sparse, f.few) in mul-le-mul h few
+
+-- so few that an f32 holds their number
+pub pilots_exact : (m : Map) → FitMap m → T (in_float binary32 (pos (pilots_of m.robust m.nc)))
+pilots_exact m f = counted binary32 (pilots_of m.robust m.nc) (omega (arith, pilots_le m.robust m.nc f.robust, f.few))

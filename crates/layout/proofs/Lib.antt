@@ -3,7 +3,6 @@ pub mod Each
 pub mod Turns
 pub mod Phases
 pub mod Fits
-pub mod Small
 pub mod Kept
 pub mod Comb
 pub mod Cells

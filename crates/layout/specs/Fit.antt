@@ -1,4 +1,5 @@
--- What the code asks of a layout. frame.rs asserts most of it of its nine as it is compiled; `proofs/Fits.antt` proves it of them.
+-- What the code asks of a layout. frame.rs asserts most of it of its nine as it is compiled; `proofs/Fits.antt` proves
+-- it of them.
 use Rattle.std.specs.Prelude.{◌≡◌, ℕ, ◌-◌, ◌*◌, ◌%◌, ◌<◌, ◌≤◌}
 use Rattle.elementary.specs.Domain.{InTurns}
 use Rattle.layout.specs.declared.pattern.Pattern.{Pattern}

@@ -1,4 +1,5 @@
-// The data carriers of a symbol, by number and back. The pilots stand at s, s + step, .. and at the top, so step - 1 data carriers lie from one to the next.
+// The data carriers of a symbol, by number and back. The pilots stand at s, s + step, .. and at the top, so step - 1
+// data carriers lie from one to the next.
 ghost use Rattle.std.specs.Prelude.{◌≡◌, ◌<◌, ◌≤◌, false};
 ghost use Rattle.layout.specs.Maps.{is_pilot, carriers_at};
 ghost use Rattle.layout.specs.Fit.{FitMap};
@@ -8,7 +9,7 @@ use crate::map::Map;
 
 impl Map {
     // The j-th data carrier of symbol g.
-    #[tactic(auto, using(crate::proofs::Fits::at_fits, crate::proofs::Cells::carrier_low, crate::proofs::Cells::carrier_high, crate::proofs::Cells::carrier_fits,))]
+    #[tactic(auto, using(crate::proofs::Fits::at_fits, crate::proofs::Cells::carrier_low, crate::proofs::Cells::carrier_high, crate::proofs::Cells::carrier_fits, crate::proofs::Cells::carrier_few,))]
     pub fn data_carrier(self, g: usize, j: usize) -> usize
         requires { FitMap self × (1 ≤ g) × (j < carriers_at self g) }
         ensures { result ≡ data_carrier self g j }
@@ -22,7 +23,7 @@ impl Map {
     }
 
     // How many data carriers of symbol g stand before its data carrier c.
-    #[tactic(auto, using(crate::proofs::Fits::at_fits, crate::proofs::Cells::index_low, crate::proofs::Cells::index_high, crate::proofs::Cells::index_takes,))]
+    #[tactic(auto, using(crate::proofs::Fits::at_fits, crate::proofs::Cells::index_low, crate::proofs::Cells::index_high, crate::proofs::Cells::index_takes, crate::proofs::Cells::index_above,))]
     pub fn cell_index(self, g: usize, c: usize) -> usize
         requires { FitMap self × (1 ≤ g) × (c < self.nc) × (is_pilot self c g ≡ false) }
         ensures { result ≡ cell_index self g c }

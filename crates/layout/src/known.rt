@@ -1,12 +1,12 @@
-// What is known of a cell. `pilot_value`, `p_sym` and `b_value` are the layout's in the source; here the map holds what they read of it.
+// What is known of a cell. `pilot_value`, `p_sym` and `b_value` are the layout's in the source; here the map holds what
+// they read of it.
 ghost use Rattle.std.specs.Prelude.{◌≡◌, ◌^◌, ◌<◌};
 ghost use Rattle.layout.specs.Fit.{FitMap};
 ghost use Rattle.layout.specs.Known.{pilot_sign, pilot_value, p_sym, b_value, known_value};
 
 use crate::map::Map;
 use dsp::Complex;
-
-const PI: f64 = 3.14159265358979323846264338327950288;
+use std::f64::consts::PI;
 
 // Scattered pilot amplitude (+2.5 dB, as DVB-T).
 const PILOT_AMP: f32 = 4.0 / 3.0;
@@ -40,7 +40,7 @@ impl Map {
     }
 
     // Power of one symbol of the robust pattern: unit data cells and boosted pilots.
-    #[tactic(auto, using(crate::proofs::Fits::pilots_le), unfolding(crate::specs::Known::p_sym))]
+    #[tactic(auto, using(crate::proofs::Fits::pilots_le, crate::proofs::Fits::pilots_exact), unfolding(crate::specs::Known::p_sym))]
     pub fn p_sym(self) -> f32
         requires { FitMap self }
         ensures { result ≡ p_sym self }

@@ -1,4 +1,5 @@
-// Where the cells of a burst lie: the nine layouts, their pilot patterns, what is known of a cell, and the data carriers.
+// Where the cells of a burst lie: the nine layouts, their pilot patterns, what is known of a cell, and the data
+// carriers.
 #![tactic(auto)]
 
 mod carriers;

@@ -6,8 +6,9 @@ ghost use Rattle.layout.specs.Fit.{FitLayout, FitMap};
 use crate::layouts::Layout;
 use crate::pattern::Pattern;
 
-// Symbol 0 is all known, the header's symbols (1..hdr_end) have the robust pattern, the data symbols the burst's own. Of the
-// layout it holds what is read for each cell. `FitMap` is a clause and no ghost field, as `FitLayout` is of a layout.
+// Symbol 0 is all known, the header's symbols (1..hdr_end) have the robust pattern, the data symbols the burst's own.
+// Of the layout it holds what is read for each cell. `FitMap` is a clause and no ghost field, as `FitLayout` is of a
+// layout; the bounds of a carrier's and a symbol's number beside it are each call's own.
 #[derive(Clone, Copy)]
 pub struct Map {
     pub nc: usize,
@@ -19,6 +20,7 @@ pub struct Map {
 }
 
 impl Map {
+    // `sparse` as in `Layout::pattern`.
     #[tactic(auto, unfolding(crate::specs::Maps::map_of))]
     pub fn new(l: Layout, sparse: bool, gain: f32) -> Map
         requires { FitLayout l }

@@ -3,7 +3,8 @@ ghost use Rattle.std.specs.Prelude.{◌≡◌};
 ghost use Rattle.layout.specs.Patterns.{first_pilot, on_pattern, pilots_of};
 ghost use Rattle.layout.specs.Fit.{Turning, FitPattern};
 
-// Scattered pilots: carrier `c` is a pilot in symbol `g` when `c mod step = shift · (g mod period)`, and the top carrier in every symbol.
+// Scattered pilots: carrier `c` is a pilot in symbol `g` when `c mod step = shift · (g mod period)`, and the top
+// carrier in every symbol.
 #[derive(Clone, Copy)]
 pub struct Pattern {
     pub step: usize,

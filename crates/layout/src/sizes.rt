@@ -23,6 +23,8 @@ impl Layout {
         1 + self.hdr_syms
     }
 
+    // The source's `Pilots`, robust or sparse, is a bit here and in the functions that hand it on: the header has it as
+    // one, and the C interface passes it as one.
     #[tactic(auto, unfolding(crate::specs::Sizes::pattern_of))]
     pub fn pattern(self, sparse: bool) -> Pattern
         ensures { result ≡ pattern_of self sparse }
@@ -48,6 +50,7 @@ impl Layout {
     }
 
     // Its data cells.
+    #[tactic(auto, using(crate::proofs::Fits::cells_le))]
     pub fn ncell(self, sparse: bool, nsym: usize) -> usize
         requires { FitSizes self × (nsym ≤ 1023) }
         ensures { result ≡ ncell_of self sparse nsym }

@@ -11,7 +11,8 @@ use Rattle.load.specs.declared.pilot.Pilot.{Pilot}
 use Rattle.load.specs.Pilots.{pilot_at}
 use Rattle.load.specs.Work.{stored_w, stored_pf, Holds}
 use Rattle.load.proofs.Storing.{one_pushes}
-use Rattle.near.specs.Search.{none, pilot}
+use Rattle.load.specs.Load.{nothing}
+use Rattle.near.specs.Search.{pilot}
 use Rattle.listed.specs.Listed.{Askable, records_in, InLists}
 use Rattle.listed.specs.declared.single.Ask.{Ask}
 
@@ -40,7 +41,7 @@ module _ (ps : List Pilot) where
         (record {
           long_w = lw ∙ f.long_w;
           long_pf = lf ∙ f.long_pf;
-          holds = rw (take-suc ps i none h) (p.holds (take i ps) (length-take-le i ps (omega arith)) f.holds);
+          holds = rw (take-suc ps i nothing h) (p.holds (take i ps) (length-take-le i ps (omega arith)) f.holds);
         })
 
   pub all_in : (w : List ℕ) (pf : List Float) (words floats : ℕ) → Filled ps words floats n w pf → records_in n w pf ≡ ps
@@ -48,7 +49,7 @@ module _ (ps : List Pilot) where
   all_in w pf words floats f =
       let here : (i : ℕ) → i < n → pilot_at w (drop n w) pf i ≡ pilot ps i = rw (take-length ps) at f.holds in
       sym
-      (tab_only (pilot_at (take n w) (take n (drop n w)) (take (3 * n) pf)) n none ps refl
+      (tab_only (pilot_at (take n w) (take n (drop n w)) (take (3 * n) pf)) n nothing ps refl
       (λ i h.
       sym
       (rw (

@@ -9,7 +9,8 @@ use lib.Ieee.{Float}
 use Rattle.seq.specs.Tab.{tab}
 use Rattle.seq.specs.Tab.Laws.{length_tab, get_d_tab}
 use Rattle.load.specs.Pilots.{pilot_at, pilots, Loaded}
-use Rattle.near.specs.Search.{none, pilot}
+use Rattle.load.specs.Load.{nothing}
+use Rattle.near.specs.Search.{pilot}
 use Rattle.listed.specs.Order.{below}
 use Rattle.listed.specs.Listed.{by_all, Ordered, records_in, InLists}
 use Rattle.est.specs.declared.combine.Estimate.{Estimate}
@@ -31,7 +32,7 @@ module _ (pc pg : List ℕ) (pf : List Float) (nc ng : ℕ) (lg : length pg ≡ 
   long = length_tab (pilot_at pc pg pf) n
 
   at_place : (i : ℕ) → i < n → pilot (pilots pc pg pf n) i ≡ pilot_at pc pg pf i
-  at_place i h = get_d_tab (pilot_at pc pg pf) n i none h
+  at_place i h = get_d_tab (pilot_at pc pg pf) n i nothing h
 
   in_grid : (i : ℕ) → i < n → symbol i < ng
   in_grid i h = rw (at_place i h) at (o.symbol i (omega (arith, long)))

@@ -1,4 +1,5 @@
--- The single estimate from a list of pilot records: est.rs, `estimate`, by all of them, under the model that `Estimator::new` sets.
+-- The single estimate from a list of pilot records: est.rs, `estimate`, by all of them, under the model that
+-- `Estimator::new` sets.
 use Rattle.std.specs.Prelude.{ℕ, ◌*◌, ◌≤◌, ◌<◌, List, length, take, drop, Float}
 use Rattle.ieee.specs.Num.{◌⊠◌, one32}
 use Rattle.load.specs.declared.pilot.Pilot.{Pilot}

@@ -1,4 +1,5 @@
--- Where the pilots of each symbol begin, when they stand in order of symbol: self.start, which est.rs keeps while it loads.
+-- Where the pilots of each symbol begin, when they stand in order of symbol: self.start, which est.rs keeps while it
+-- loads.
 use Rattle.std.specs.Prelude.{ℕ, ◌+◌, cond, ltb}
 use Rattle.seq.specs.Loop.{for}
 

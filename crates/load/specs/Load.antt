@@ -4,6 +4,7 @@ use Rattle.std.specs.Float.{nan}
 use Rattle.seq.specs.Cat.{cat}
 use Rattle.ieee.specs.Num.{◌⧄◌, one32}
 use Rattle.dsp.specs.declared.Complex.{Complex}
+use Rattle.dsp.specs.Flat.{complex_at}
 use Rattle.dsp.specs.Arithmetic.{complex, conjᶜ, norm_sqr, scaleᶜ, ◌*ᶜ◌}
 use Rattle.load.specs.declared.pilot.Pilot.{Pilot}
 use Rattle.load.specs.declared.found.Found.{Found}
@@ -11,7 +12,7 @@ use Rattle.load.specs.declared.found.Found.TheVariants.{Known, Soft, Blank}
 
 -- grid[i]
 abbrev pub sample_at : List Float → ℕ → Complex
-sample_at grid i = complex (get_or grid (2 * i) nan) (get_or grid (2 * i + 1) nan)
+sample_at grid i = complex_at grid i
 
 -- Pilot { c, g, h: (y * x.conj()).scale(1.0 / e), var: v / e }, with e = x.norm_sqr()
 unfoldable pub pilot_of : ℕ → ℕ → Complex → Complex → Float → Pilot

@@ -1,4 +1,5 @@
--- A list of pilots, and how lent lists of numbers hold it: carriers, symbols, and three numbers a pilot (re, im, variance).
+-- A list of pilots, and how lent lists of numbers hold it: carriers, symbols, and three numbers a pilot (re, im,
+-- variance).
 use Rattle.std.specs.Prelude.{ℕ, ◌+◌, ◌*◌, ◌≤◌, ◌<◌, ◌≡◌, List, length, get_or, Float}
 use Rattle.std.specs.Float.{nan}
 use Rattle.dsp.specs.Arithmetic.{complex}

@@ -1,9 +1,11 @@
--- How the work lists hold the pilots: with n places, carriers at 0.., symbols at n.., starts at 2 n..; three numbers a pilot.
+-- How the work lists hold the pilots: with n places, carriers at 0.., symbols at n.., starts at 2 n..; three numbers
+-- a pilot.
 use Rattle.std.specs.Prelude.{ℕ, ◌+◌, ◌*◌, ◌≤◌, ◌<◌, ◌≡◌, List, ◌++◌, length, get_or, set, take, drop, Float}
 use Rattle.seq.specs.Tab.{tab}
 use Rattle.load.specs.declared.pilot.Pilot.{Pilot}
 use Rattle.load.specs.declared.found.Found.{Found}
 use Rattle.load.specs.declared.found.Source.{Source}
+use Rattle.load.specs.declared.pilots.Pilots.{Pilots}
 use Rattle.load.specs.Pilots.{pilot_at, pilots, Loaded}
 use Rattle.load.specs.Fit.{places}
 use Rattle.load.specs.Load.{nothing, loaded, start_of}
@@ -14,6 +16,13 @@ stored_w n i p w = set (set w i p.c) (n + i) p.g
 
 unfoldable pub stored_pf : ℕ → Pilot → List Float → List Float
 stored_pf i p pf = set (set (set pf (3 * i) p.h.re) (3 * i + 1) p.h.im) (3 * i + 2) p.var
+
+-- np pilots of them as they are lent
+pub record Cut (w : List ℕ) (pf : List Float) (n ng np : ℕ) (ps : Pilots) : Type 0 where
+  pub carriers : ps.c.now ≡ take np w
+  pub symbols : ps.g.now ≡ take np (drop n w)
+  pub numbers : ps.f.now ≡ take (3 * np) pf
+  pub starts : ps.start.now ≡ take (ng + 1) (drop (2 * n) w)
 
 -- the first pilots that they hold are ps
 unfoldable pub Holds : ℕ → List Pilot → List ℕ → List Float → Type 0

@@ -1,14 +1,14 @@
 // What the loader finds at a cell: refine.rs, the closure handed to `load_with`.
-ghost use Rattle.std.specs.Prelude.{◌≡◌, ◌+◌, ◌*◌, ◌<◌, length};
-ghost use Rattle.load.specs.Find.{soft_cell, found_at};
 ghost use Rattle.load.specs.Fit.{FitSource};
+ghost use Rattle.load.specs.Facts.{fit_fact};
 
 use dsp::Complex;
 use layout::Map;
 use soft::loud;
 
-// A value and the variance of `y - h * x`: of a known cell, or of a data cell whose expected value says enough. An enum in place of the
-// closure's Option, as the project's scope has it: what is proved of a cell's own pilot tells a soft value from a known one.
+// A value and the variance of `y - h * x`: of a known cell, or of a data cell whose expected value says enough. An
+// enum in place of the closure's Option, as the project's scope has it: what is proved of a cell's own pilot tells a
+// soft value from a known one.
 #[derive(Clone, Copy)]
 pub enum Found {
     Known(Complex, f32),
@@ -16,8 +16,8 @@ pub enum Found {
     Blank,
 }
 
-// The numbers that the loader reads: data carriers a data symbol, grid symbols, the reference symbol's boost, the channel's power,
-// the constellation's mean energy.
+// The numbers that the loader reads: data carriers a data symbol, grid symbols, the reference symbol's boost, the
+// channel's power, the constellation's mean energy.
 #[derive(Clone, Copy)]
 pub struct Source {
     pub map: Map,
@@ -28,37 +28,51 @@ pub struct Source {
     pub es: f32,
 }
 
-// Data cell number `cell`: soft where its expected value is loud.
-fn soft_at(s: Source, cell: usize, cells: &[f32], expected: &[f32]) -> Found
-    requires { (cell < length cells.now) × (3 * cell + 2 < length expected.now) }
-    ensures { result ≡ soft_cell s cells.now expected.now cell Found.Blank }
-{
-    let x = Complex::new(expected[3 * cell], expected[3 * cell + 1]);
-    if loud(x, s.es) {
-        return Found::Soft(x, cells[cell] + s.p_h * expected[3 * cell + 2]);
-    }
-    Found::Blank
+// What a burst's pilots are loaded from: the numbers above, the grid, the variances of its carriers and of its data
+// cells, and the cells' expected values.
+#[derive(Clone, Copy)]
+pub struct Loader<'a> {
+    pub source: Source,
+    pub grid: &'a [f32],
+    pub sigma: &'a [f32],
+    pub cells: &'a [f32],
+    pub expected: &'a [f32],
+    ghost fit: { FitSource source sigma.now cells.now expected.now } by { fit_fact },
 }
 
-// Carrier c of symbol g: a known value wins.
-pub fn found_at(
-    s: Source,
-    c: usize,
-    g: usize,
-    sigma: &[f32],
-    cells: &[f32],
-    expected: &[f32],
-) -> Found
-    requires { FitSource s sigma.now cells.now expected.now × (c < s.map.nc) × (g < s.ng) }
-    ensures { result ≡ found_at s sigma.now cells.now expected.now c g }
-{
-    let m = s.map;
-    if m.is_pilot(c, g) {
-        return Found::Known(m.known(c, g, s.boost), sigma[c]);
+impl Loader<'_> {
+    ghost use Rattle.std.specs.Prelude.{◌≡◌, ◌+◌, ◌*◌, ◌<◌, length};
+    ghost use Rattle.load.specs.Find.{soft_cell, found_at};
+
+    // Data cell number `cell`: soft where its expected value is loud.
+    #[tactic(auto, unfolding(crate::specs::Find::soft_cell))]
+    fn soft_at(&self, cell: usize) -> Found
+        requires { (cell < length self.now.cells.now) × (3 * cell + 2 < length self.now.expected.now) }
+        ensures { result ≡ soft_cell self.now.source self.now.cells.now self.now.expected.now cell Found.Blank }
+    {
+        let s = self.source;
+        let e = self.expected;
+        let x = Complex::new(e[3 * cell], e[3 * cell + 1]);
+        if loud(x, s.es) {
+            return Found::Soft(x, self.cells[cell] + s.p_h * e[3 * cell + 2]);
+        }
+        Found::Blank
     }
-    if g < m.hdr_end {
-        return Found::Blank;
+
+    // Carrier c of symbol g: a known value wins.
+    pub fn found_at(&self, c: usize, g: usize) -> Found
+        requires { (c < self.now.source.map.nc) × (g < self.now.source.ng) }
+        ensures { result ≡ found_at self.now.source self.now.sigma.now self.now.cells.now self.now.expected.now c g }
+    {
+        let s = self.source;
+        let m = s.map;
+        if m.is_pilot(c, g) {
+            return Found::Known(m.known(c, g, s.boost), self.sigma[c]);
+        }
+        if g < m.hdr_end {
+            return Found::Blank;
+        }
+        let cell = (g - m.hdr_end) * s.dc + m.cell_index(g, c);
+        self.soft_at(cell)
     }
-    let cell = (g - m.hdr_end) * s.dc + m.cell_index(g, c);
-    soft_at(s, cell, cells, expected)
 }

@@ -7,8 +7,7 @@ mod pilots;
 mod push;
 mod rows;
 
-pub use found::{Found, Source, found_at};
+pub use found::{Found, Loader, Source};
 pub use pilot::Pilot;
 pub use pilots::Pilots;
-pub use push::{pilot_of, put, sample};
-pub use rows::load;
+pub use push::{pilot_of, put};

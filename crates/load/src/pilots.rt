@@ -4,8 +4,9 @@ ghost use Rattle.std.specs.Prelude.{◌≡◌, ◌*◌, length};
 use crate::pilot::Pilot;
 use dsp::Complex;
 
-// est.rs, `Estimator`, its `pilots` and `start`: carriers, symbols, three numbers a pilot (re, im, variance), and where each symbol's pilots start.
-// The work area is lent as one list of whole numbers and one of floats, so a pilot's numbers stand side by side and not in a `Pilot`.
+// est.rs, `Estimator`, its `pilots` and `start`: carriers, symbols, three numbers a pilot (re, im, variance), and
+// where each symbol's pilots start. The work area is lent as one list of whole numbers and one of floats, so a
+// pilot's numbers stand side by side and not in a `Pilot`.
 #[derive(Clone, Copy)]
 pub struct Pilots<'a> {
     pub c: &'a [u32],
@@ -15,11 +16,26 @@ pub struct Pilots<'a> {
     ghost same_length: { (length g.now ≡ length c.now) × (length f.now ≡ 3 * length c.now) },
 }
 
-impl Pilots<'_> {
-    ghost use Rattle.std.specs.Prelude.{◌≡◌, ◌<◌, length, get_or};
+impl<'a> Pilots<'a> {
+    ghost use Rattle.std.specs.Prelude.{◌≡◌, ◌+◌, ◌*◌, ◌≤◌, ◌<◌, length, get_or};
     ghost use Rattle.load.specs.Load.{nothing};
     ghost use Rattle.load.specs.Pilots.{listed};
+    ghost use Rattle.load.specs.Work.{Cut};
 
+    // The first np pilots of the work lists, on a grid of ng symbols with n cells.
+    pub fn of_lists(w: &'a [u32], pf: &'a [f32], n: usize, ng: usize, np: usize) -> Pilots<'a>
+        requires { (np ≤ n) × (2 * n + ng + 1 ≤ length w.now) × (3 * np ≤ length pf.now) }
+        ensures { Cut w.now pf.now n ng np result }
+    {
+        Pilots {
+            c: &w[..np],
+            g: &w[n..n + np],
+            f: &pf[..3 * np],
+            start: &w[2 * n..2 * n + ng + 1],
+        }
+    }
+
+    #[tactic(auto, using(seq::specs::Tab::Laws::length_tab))]
     pub fn len(&self) -> usize
         ensures { result ≡ length (listed self.now) }
     {
@@ -27,6 +43,7 @@ impl Pilots<'_> {
     }
 
     // self.pilots[i]
+    #[tactic(auto, using(seq::specs::Tab::Laws::get_d_tab))]
     pub fn pilot(&self, i: usize) -> Pilot
         requires { i < length self.now.c.now }
         ensures { result ≡ get_or (listed self.now) i nothing }

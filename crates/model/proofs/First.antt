@@ -1,4 +1,5 @@
--- The model that `select_model` answers is the first with the smallest residual; its indices and its scale are in range.
+-- The model that `select_model` answers is the first with the smallest residual; its indices and its scale are in
+-- range.
 use Rattle.std.proofs.Common.{◌≡◌, ℕ, zero, suc, ◌/◌, ◌%◌, ◌<◌, Bool, true, false, cond, ◌⊎◌, List, sym, refl, ap, ◌∙◌, subst, inl, inr, le_of_suc-le-suc, eq-or-lt_of_le, add-one, arith}
 use lib.Ieee.{Float, lt, le}
 use lib.Ieee.Bits.{is_false}
@@ -11,27 +12,27 @@ use Rattle.load.specs.declared.pilot.Pilot.{Pilot}
 use Rattle.model.specs.Select.{model, best, none, scale_of, better, tried, next, select_model}
 use Rattle.model.specs.Laws.{OfGrid, Chosen, Fallback, FirstLeast, InRange}
 use Rattle.model.specs.declared.trial.Setting.{Setting}
-use Rattle.model.specs.declared.select.Best.{Best}
+use Rattle.model.specs.declared.select.BestModel.{BestModel}
 use Rattle.model.proofs.Ranges.{scale_range}
 
 module _ (s : Setting) (ps : List Pilot) (start : List ℕ) where
   abbrev r : ℕ → Float
   r t = (tried s ps start t).r
 
-  abbrev of : ℕ → Best
+  abbrev of : ℕ → BestModel
   of t = best (r t) (model (t / 3) (t % 3) (scale_of (tried s ps start t)))
 
-  record Leads (n : ℕ) (b : Best) (t : ℕ) : Type 0 where
+  record Leads (n : ℕ) (b : BestModel) (t : ℕ) : Type 0 where
     below : t < n
     is : b ≡ of t
     first : (u : ℕ) → u < t → le (r u) (r t) ≡ false
 
   -- the first n were tried, and b is the best of them
-  record Judged (n : ℕ) (b : Best) : Type 0 where
+  record Judged (n : ℕ) (b : BestModel) : Type 0 where
     least : (u : ℕ) → u < n → lt (r u) b.r ≡ false
     whose : ((t : ℕ) × Leads n b t) ⊎ (b ≡ none)
 
-  step : (n : ℕ) (b : Best) → Judged n b → Judged (suc n) (next s ps start n b)
+  step : (n : ℕ) (b : BestModel) → Judged n b → Judged (suc n) (next s ps start n b)
   unfolding next better
   step n b h = go (lt (r n) b.r) refl
     where
@@ -61,7 +62,7 @@ module _ (s : Setting) (ps : List Pilot) (start : List ℕ) where
       let e : for 0 (suc n) (next s ps start) none ≡ next s ps start n (for 0 n (next s ps start) none) = rw add-one at (for_next (next s ps start) 0 n none (omega arith)) in
       subst (Judged (suc n)) (sym e) (step n _ (all n))
 
-  answers : (b : Best) → select_model s ps start ≡ b.model → Judged 9 b → ((t : ℕ) × Chosen s ps start t) ⊎ Fallback s ps start
+  answers : (b : BestModel) → select_model s ps start ≡ b.model → Judged 9 b → ((t : ℕ) × Chosen s ps start t) ⊎ Fallback s ps start
   answers b e h = go h.whose
     where
       go : ((t : ℕ) × Leads 9 b t) ⊎ (b ≡ none) → ((t : ℕ) × Chosen s ps start t) ⊎ Fallback s ps start

@@ -1,4 +1,5 @@
--- The numbers of `select_model` that are not written in whole. proofs/Decimals.antt has each as the number of the source.
+-- The numbers of `select_model` that are not written in whole. proofs/Decimals.antt has each as the number of the
+-- source.
 use Rattle.std.specs.Prelude.{from_bits, Float}
 use Rattle.std.specs.Float.{binary64}
 use Rattle.ieee.specs.Num.{◌⊘◌, zero64, one64}

@@ -1,4 +1,5 @@
--- What `select_model` answers, whatever the pilots. Statements, proved in proofs/Strides.antt, Models.antt and First.antt.
+-- What `select_model` answers, whatever the pilots. Statements, proved in proofs/Strides.antt, Models.antt and
+-- First.antt.
 use Rattle.std.specs.Prelude.{◌≡◌, ℕ, ◌*◌, ◌/◌, ◌%◌, ◌<◌, ◌≤◌, Bool, false, T, ◌⊎◌, List, from_bits, slice_index_or, Float}
 use Rattle.std.specs.Float.{nan, binary32}
 use Rattle.std.specs.Float.Ieee.{lt, le}
@@ -12,7 +13,8 @@ use Rattle.model.specs.Select.{model, scale_of, tried, select_model}
 use Rattle.model.specs.declared.trial.Setting.{Setting}
 use Rattle.model.specs.declared.select.Model.{Model}
 
--- `while i < np { .. i += stride; }` from i = 0: in turn j i is j * stride, which is below np in the turns counted, and no more after the last
+-- `while i < np { .. i += stride; }` from i = 0: in turn j i is j * stride, which is below np in the turns counted,
+-- and no more after the last
 pub record WhileLoop (np : ℕ) : Type 0 where
   pub goes : (j : ℕ) → j < turns_of np → j * stride_of np < np
   pub stops : np ≤ turns_of np * stride_of np

@@ -63,12 +63,6 @@ module _ (ps : List Pilot) (start : List ℕ) where
 
 -- ---- what the code may count on
 
-pub record Windowed (w : Window) (ps : Pilots) : Type 0 where
-  pub loaded : OnGrid ps w.nc w.ng
-  pub width : w.gw ≤ 12
-  pub some : 1 ≤ w.k
-  pub most : w.k ≤ 40
-
 pub record Fit (s : Setting) (ps : Pilots) : Type 0 where
   pub loaded : OnGrid ps s.l.nc s.ng
   pub some : 1 ≤ s.k

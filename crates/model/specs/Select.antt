@@ -13,16 +13,16 @@ use Rattle.model.specs.Score.{tried_of}
 use Rattle.model.specs.declared.trial.Setting.{Setting}
 use Rattle.model.specs.declared.trial.Tried.{Tried}
 use Rattle.model.specs.declared.select.Model.{Model}
-use Rattle.model.specs.declared.select.Best.{Best}
+use Rattle.model.specs.declared.select.BestModel.{BestModel}
 
 abbrev pub model : ℕ → ℕ → Float → Model
 model fd tm scale = record { fd = fd; tm = tm; scale = scale }
 
-abbrev pub best : Float → Model → Best
+abbrev pub best : Float → Model → BestModel
 best r m = record { r = r; model = m }
 
 -- let mut best = (f64::INFINITY, default_model(self.l), 1.0f32)
-abbrev pub none : Best
+abbrev pub none : BestModel
 none = best infinity (model 3 3 one32)
 
 -- let scale = ((r - v) / m.max(1e-30)).clamp(1.0, 10.0) as f32
@@ -30,7 +30,7 @@ unfoldable pub scale_of : Tried → Float
 scale_of t = narrowed (clamp_of ((t.r ⊖ t.v) ⊘ max_of t.m e_30) one64 ten)
 
 -- if r < best.0 { .. best = (r, (fd, tm), scale); }
-unfoldable pub better : ℕ → ℕ → Tried → Best → Best
+unfoldable pub better : ℕ → ℕ → Tried → BestModel → BestModel
 better i j t b = cond (lt t.r b.r) (best t.r (model i j (scale_of t))) b
 
 module _ (s : Setting) (ps : List Pilot) (start : List ℕ) where
@@ -42,7 +42,7 @@ module _ (s : Setting) (ps : List Pilot) (start : List ℕ) where
   unfoldable pub residuals : List Float
   residuals = tab 9 (λ t. (tried t).r)
 
-  unfoldable pub next : ℕ → Best → Best
+  unfoldable pub next : ℕ → BestModel → BestModel
   next t = better (t / 3) (t % 3) (tried t)
 
   -- best.1, by its indices, and best.2

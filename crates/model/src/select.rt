@@ -10,7 +10,8 @@ use crate::values::{fd_value, tm_value};
 use load::Pilots;
 
 // A model by its indices, 3 3 where none was borne out, and the factor on its errors.
-// Numbers, and not an Option: C is handed them, and 3 3 stands for values of its own (values.rt).
+// Numbers, and not an Option: C is handed them, and 3 3 stands for values of its own (values.rt). That they are
+// at most 3 is no ghost field: the definitions make a model of any two numbers.
 #[derive(Clone, Copy)]
 pub struct Model {
     pub fd: u32,
@@ -20,7 +21,7 @@ pub struct Model {
 
 // The smallest residual so far, and whose it is.
 #[derive(Clone, Copy)]
-pub struct Best {
+pub struct BestModel {
     pub r: f64,
     pub model: Model,
 }
@@ -34,7 +35,7 @@ fn scale(t: Tried) -> f32
 }
 
 #[tactic(auto, unfolding(crate::specs::Select::better))]
-fn better(b: Best, t: Tried, i: u32, j: u32) -> Best
+fn better(b: BestModel, t: Tried, i: u32, j: u32) -> BestModel
     ensures { result ≡ better i j t b }
 {
     if t.r < b.r {
@@ -43,13 +44,14 @@ fn better(b: Best, t: Tried, i: u32, j: u32) -> Best
             tm: j,
             scale: scale(t),
         };
-        return Best { r: t.r, model };
+        return BestModel { r: t.r, model };
     }
     b
 }
 
 // Model t of the nine, fd outside and tm inside.
-fn next(ps: &Pilots, s: Setting, t: u32, b: Best) -> Best
+#[tactic(auto, unfolding(crate::specs::Select::tried, crate::specs::Select::next))]
+fn next(ps: &Pilots, s: Setting, t: u32, b: BestModel) -> BestModel
     requires { Fit s ps.now × FitModels s.l × (t < 9) }
     ensures { result ≡ next s (listed ps.now) ps.now.start.now t b }
 {
@@ -60,12 +62,12 @@ fn next(ps: &Pilots, s: Setting, t: u32, b: Best) -> Best
     better(b, score(ps, s, fd, tm), i, j)
 }
 
-// The first of the nine with the smallest residual.
+// The first of the nine with the smallest residual. A model is known by its number, from 0 on.
 pub fn select_model(ps: &Pilots, s: Setting) -> Model
     requires { Fit s ps.now × FitModels s.l }
     ensures { result ≡ select_model s (listed ps.now) ps.now.start.now }
 {
-    let mut best = Best {
+    let mut best = BestModel {
         r: 1.0 / 0.0,
         model: Model {
             fd: 3,

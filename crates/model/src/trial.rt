@@ -1,17 +1,17 @@
 // One model: how well the pilots are estimated from each other.
-ghost use Rattle.std.specs.Prelude.{◌≡◌, ◌+◌, ◌*◌, ◌<◌, ◌≤◌, length};
+ghost use Rattle.std.specs.Prelude.{◌≡◌, ◌<◌, ◌≤◌, length};
 ghost use Rattle.load.specs.Pilots.{listed};
 ghost use Rattle.est.specs.Model.{Modelled};
 ghost use Rattle.model.specs.Values.{numerology_of};
-ghost use Rattle.model.specs.Score.{Windowed, Fit, stride_of, turns_of, added, add_pilot, summed, modelled, tried_of};
+ghost use Rattle.model.specs.Score.{Fit, stride_of, turns_of, added, add_pilot, summed, tried_of};
 
 use crate::values::{numerology, window};
-use est::{Estimate, Estimator, Numerology};
+use est::{Estimate, Estimator};
 use layout::Layout;
 use load::{Pilot, Pilots};
-use near::Window;
 
-// What a burst's models are tried with: its layout, whether its pilots are sparse, its symbols, how many pilots an estimate may use, the channel's power.
+// What a burst's models are tried with: its layout, whether its pilots are sparse, its symbols, how many pilots an
+// estimate may use, the channel's power.
 #[derive(Clone, Copy)]
 pub struct Setting {
     pub l: Layout,
@@ -37,6 +37,7 @@ fn stride(np: usize) -> usize
 }
 
 // How many pilots a model is tried on.
+#[tactic(auto, using(crate::proofs::Strides::stride_pos, crate::proofs::Strides::stride_most), unfolding(crate::specs::Score::turns_of))]
 fn turns(np: usize) -> usize
     requires { np ≤ 118156 }
     ensures { result ≡ turns_of np }
@@ -46,18 +47,20 @@ fn turns(np: usize) -> usize
 }
 
 // A pilot and its estimate more.
+#[tactic(auto, unfolding(crate::specs::Score::added))]
 fn add(t: Tried, e: Estimate, p: Pilot) -> Tried
     ensures { result ≡ added e p t }
 {
-    let h = e.h;
+    let d = e.h - p.h;
     Tried {
-        r: t.r + std::num::f32_to_f64_with_nan(h.sub(p.h).norm_sqr()),
+        r: t.r + std::num::f32_to_f64_with_nan(d.norm_sqr()),
         v: t.v + std::num::f32_to_f64_with_nan(p.var),
         m: t.m + std::num::f32_to_f64_with_nan(e.mse),
     }
 }
 
 // Pilot i against its estimate from the others.
+#[tactic(auto, unfolding(crate::specs::Score::others, crate::specs::Score::add_pilot))]
 fn add_pilot(e: &Estimator, i: usize, t: Tried) -> Tried
     requires { i < length e.now.pilots.c.now }
     ensures { result ≡ add_pilot e.now.window e.now.p_h (listed e.now.pilots) e.now.pilots.start.now e.now.scales e.now.rf.now e.now.rt.now i t }
@@ -67,7 +70,7 @@ fn add_pilot(e: &Estimator, i: usize, t: Tried) -> Tried
     add(t, others, p)
 }
 
-// Every stride-th pilot.
+// Every stride-th pilot: turn j is at the pilot of number j * stride.
 fn sum_pilots(e: &Estimator) -> Tried
     ensures { result ≡ summed e.now.window e.now.p_h (listed e.now.pilots) e.now.pilots.start.now e.now.scales e.now.rf.now e.now.rt.now }
 {
@@ -84,43 +87,21 @@ fn sum_pilots(e: &Estimator) -> Tried
     t
 }
 
-// The model of Doppler fd and delay span tm, with its correlations in lent tables.
-fn with_tables(
-    ps: &Pilots,
-    l: Numerology,
-    w: Window,
-    p_h: f32,
-    fd: f64,
-    tm: f64,
-    rf: &mut [f64],
-    rt: &mut [f64],
-) -> Tried
-    requires windowed { Windowed w ps.now × Modelled l fd tm × (w.nc ≡ l.nc) × (w.gw ≡ l.gw) }
-    requires rf_len { (length rf.old ≡ 2 * l.nc + 1) × (length rt.old ≡ 4 * l.gw + 1) }
-    ensures { result ≡ modelled (listed ps.now) ps.now.start.now l w p_h fd tm }
-{
-    let scales = est::set_model(l, fd, tm, rf, rt);
-    sum_pilots(&Estimator {
-        pilots: *ps,
-        rf,
-        rt,
-        scales,
-        window: w,
-        p_h,
-        mse_scale: 1.0,
-    })
-}
-
+// The model of Doppler fd and delay span tm.
+#[tactic(auto, unfolding(crate::specs::Score::modelled, crate::specs::Score::tried_of))]
 pub fn score(ps: &Pilots, s: Setting, fd: f64, tm: f64) -> Tried
     requires { Fit s ps.now × Modelled (numerology_of s.l) fd tm }
     ensures { result ≡ tried_of (listed ps.now) ps.now.start.now s fd tm }
 {
-    let l = numerology(s.l);
-    let w = window(s.l, s.ng, s.k);
-    // Room for the most carriers, 109, and the most symbols, 12 to each side.
-    let mut rf = [0f64; 219];
-    let mut rt = [0f64; 49];
-    let rf = &mut rf[..2 * l.nc + 1];
-    let rt = &mut rt[..4 * l.gw + 1];
-    with_tables(ps, l, w, s.p_h, fd, tm, rf, rt)
+    let t = est::set_model(numerology(s.l), fd, tm);
+    let e = Estimator {
+        pilots: *ps,
+        rf: t.rf(),
+        rt: t.rt(),
+        scales: t.scales,
+        window: window(s.l, s.ng, s.k),
+        p_h: s.p_h,
+        mse_scale: 1.0,
+    };
+    sum_pilots(&e)
 }

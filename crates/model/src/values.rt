@@ -30,6 +30,7 @@ pub fn window(l: Layout, ng: usize, k: usize) -> Window
     }
 }
 
+// refine.rs, `Pilots::Sparse`, which C hands on as a flag.
 #[tactic(auto, unfolding(crate::specs::Values::fd_grid))]
 fn fd_grid(l: Layout, sparse: bool) -> [f64; 3]
     ensures { result ≡ fd_grid l sparse }

@@ -31,6 +31,7 @@ const NONE: Count = Count {
     others: 0,
 };
 
+// `own` is no switch: it is what the test of `counts` says of the place.
 fn counted(n: Count, own: bool, x: f32, y: f32) -> Count
     requires equal { n.equal < 100 }
     requires differ { n.differ < 100 }

@@ -1,6 +1,7 @@
-// Refinements of one burst: with its priors, and with the priors of one cell's own bits negated. `Independence` of phy says that this cell's
-// estimate, error and likelihoods are then the same where model and scale are. The lines show that there are such pairs, that the
-// other cells' numbers do change, and that the cell's own do where the model is another one.
+// Refinements of one burst: with its priors, and with the priors of one cell's own bits negated. `Independence` of phy
+// says that this cell's estimate, error and likelihoods are then the same where model and scale are. The lines show
+// that there are such pairs, that the other cells' numbers do change, and that the cell's own do where the model is
+// another.
 #![tactic(auto)]
 
 mod burst;
@@ -63,6 +64,7 @@ fn print_pair(rt: &impl Print, j: usize, a: &Numbers) -> io::Result<()>
 }
 
 fn print_pairs(rt: &impl Print, a: &Numbers) -> io::Result<()> {
+    // The cell is its number: no list has the cells.
     for j in 0..12usize {
         print_pair(rt, j, a)?;
     }

@@ -9,10 +9,10 @@ use Rattle.layout.specs.Sizes.{ng_of}
 use Rattle.refine.specs.declared.settings.Settings.{Settings}
 use Rattle.phy.specs.Channels.{bad_place}
 use Rattle.table.specs.Sizes.{nc_of}
-use Rattle.scan.proofs.Tests.{neither}
+use Rattle.std.proofs.lemmas.Bool.{or_parts}
 
 pub in_grid : (s : Settings) (carrier symbol : ℕ) → false ≡ bad_place s carrier symbol → (carrier < nc_of s) × (symbol < ng_of (layout_of s.layout) s.nsym)
 unfolding bad_place
 in_grid s carrier symbol e =
-    let t = neither (leb (nc_of s) carrier) (leb (ng_of (layout_of s.layout) s.nsym) symbol) (sym e) in
+    let t = or_parts (leb (nc_of s) carrier) (leb (ng_of (layout_of s.layout) s.nsym) symbol) (sym e) in
     (leb-false _ _ t.0, leb-false _ _ t.1)

@@ -1,4 +1,5 @@
--- What a call of `channel_power` and of the single estimate gives: the table's number, and either the value or both lists of the work area as they were.
+-- What a call of `channel_power` and of the single estimate gives: the table's number, and either the value or both
+-- lists of the work area as they were.
 use Rattle.std.specs.Prelude.{ℕ, ◌≡◌, Result, Ok, Err, Bool, true, false, cond, ◌&&◌, ◌||◌, List, leb, eqb, length, Float}
 use Rattle.layout.specs.Layouts.{layout_of}
 use Rattle.layout.specs.Sizes.{ng_of}

@@ -12,7 +12,8 @@ pub record Shared (b b' : Burst) : Type 0 where
   pub sigma : b.sigma ≡ b'.sigma
   pub cells : b.cells ≡ b'.cells
 
--- an accepted call: what it reports and leaves in answer and channel list, whatever these and the work area held before and however long they are
+-- an accepted call: what it reports and leaves in answer and channel list, whatever these and the work area held
+-- before and however long they are
 pub record Accepts (b : Burst) (prior : List Float) (r : Refined) (answer channel : List Float) : Type 0 where
   pub answer₀ : List Float
   pub channel₀ : List Float
@@ -22,8 +23,8 @@ pub record Accepts (b : Burst) (prior : List Float) (r : Refined) (answer channe
   pub wu₁ : List ℕ
   pub call : Refining b prior (Ok r) answer₀ answer channel₀ channel wf₀ wf₁ wu₀ wu₁
 
--- Where the burst is unspread, the priors are the same but for those of data cell j, and model and scale are reported the same, cell j has one estimate, one error and
--- one set of likelihoods.
+-- Where the burst is unspread, the priors are the same but for those of data cell j, and model and scale are reported
+-- the same, cell j has one estimate, one error and one set of likelihoods.
 unfoldable pub Independence : Type 0
 Independence =
     (b b' : Burst) → Shared b b' → b.settings.spread ≡ false → (j : ℕ) → j < ncell b → (p q : List Float) → SameBut b j p q

@@ -6,7 +6,7 @@ use crate::work::work_verdict;
 use cause::Cause;
 use refine::BurstGrid;
 
-// Over all pilots that a refinement of the burst loads.
+// Over all pilots that a refinement of the burst loads. wf and wu are two parameters: whole.rt of refine says why.
 pub fn channel_power(
     b: &BurstGrid,
     prior: &[f32],
@@ -15,7 +15,7 @@ pub fn channel_power(
 ) -> Result<f32, Cause>
     ensures { Measuring (burst_of b.now) prior.now result wf.old wf.new wu.old wu.new }
 {
-    work_verdict(b, prior, wf.len(), wu.len())?;
+    work_verdict(b, prior, wf, wu)?;
     let power = channel::channel_power(b, prior, wf, wu);
     Ok(power)
 }

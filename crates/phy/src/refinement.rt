@@ -7,7 +7,7 @@ use refine::{BurstGrid, Refined};
 use table::{Lent, verdict};
 
 // The answer takes the likelihoods in bit order, the channel list each cell's estimate and error; wf and wu are the
-// work area.
+// work area. They are four parameters: refine's whole.rt says why.
 pub fn refine(
     b: &BurstGrid,
     prior: &[f32],

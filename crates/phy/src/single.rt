@@ -11,7 +11,7 @@ use est::Estimate;
 use refine::{BurstGrid, Settings};
 use table::nc;
 
-#[tactic(auto, unfolding(crate::specs::Channels::bad_place))]
+#[tactic(auto, using(layout::proofs::Fits::layout_fits), unfolding(crate::specs::Channels::bad_place))]
 fn bad_place(s: Settings, carrier: usize, symbol: usize) -> bool
     requires { Counted s }
     ensures { result ≡ bad_place s carrier symbol }
@@ -20,7 +20,7 @@ fn bad_place(s: Settings, carrier: usize, symbol: usize) -> bool
     carrier >= nc(s) || symbol >= l.ng(s.nsym)
 }
 
-// Of a burst that the table passes.
+// Of a burst that the table passes. wf and wu are two parameters: whole.rt of refine says why.
 #[tactic(auto, using(crate::proofs::Places::in_grid))]
 fn estimate_in(
     b: &BurstGrid,
@@ -52,6 +52,6 @@ pub fn estimate(
 ) -> Result<Estimate, Cause>
     ensures { Estimating (burst_of b.now) prior.now carrier symbol result wf.old wf.new wu.old wu.new }
 {
-    work_verdict(b, prior, wf.len(), wu.len())?;
+    work_verdict(b, prior, wf, wu)?;
     estimate_in(b, prior, carrier, symbol, wf, wu)
 }

@@ -2,23 +2,27 @@
 ghost use Rattle.std.specs.Prelude.{◌≡◌};
 ghost use Rattle.cause.specs.Causes.{number_of};
 ghost use Rattle.refine.specs.Received.{burst_of};
-ghost use Rattle.table.specs.Refusals.{refusal_of};
-ghost use Rattle.phy.specs.Channels.{work_room};
+ghost use Rattle.phy.specs.Channels.{refusal_within};
 
 use cause::Cause;
 use refine::BurstGrid;
 use table::{Lent, verdict};
 
-// wf and wu are how many numbers its two lists have.
-pub(crate) fn work_verdict(b: &BurstGrid, prior: &[f32], wf: usize, wu: usize) -> Result<(), Cause>
-    ensures { number_of result ≡ refusal_of (burst_of b.now) prior.now (work_room b.now.settings wf wu) }
+// wf and wu are two parameters: refine's whole.rt says why. Of them only the lengths are asked.
+pub(crate) fn work_verdict(
+    b: &BurstGrid,
+    prior: &[f32],
+    wf: &[f32],
+    wu: &[u32],
+) -> Result<(), Cause>
+    ensures { number_of result ≡ refusal_within (burst_of b.now) prior.now wf.now wu.now }
 {
     // Answer and channel list, which it does without, are never too short.
     let lent = Lent {
         answer: usize::MAX,
         channel: usize::MAX,
-        wf,
-        wu,
+        wf: wf.len(),
+        wu: wu.len(),
     };
     verdict(b, prior, lent)
 }

@@ -1,4 +1,5 @@
--- A test that is computed at each number below n holds at each; a loop of so many turns is computed turn by turn. Assumes nothing.
+-- A test that is computed at each number below n holds at each; a loop of so many turns is computed turn by turn.
+-- Assumes nothing.
 use Prim.Native.Nat.{ℕ, zero, suc, ◌<◌}
 use mathlib.Core.Path.{◌≡◌, refl, sym, ap, ◌∙◌, subst}
 use mathlib.Core.Bool.{Bool, true, ◌&&◌}

@@ -1,4 +1,5 @@
--- What the callers may count on, as statements: `proofs/Laws.antt`, `proofs/Constants.antt` and `proofs/Scaling.antt` prove them.
+-- What the callers may count on, as statements: `proofs/Laws.antt`, `proofs/Constants.antt` and `proofs/Scaling.antt`
+-- prove them.
 use Rattle.std.specs.Prelude.{ℕ, ◌^◌, ◌≤◌, ◌<◌, ◌≡◌, List, false, T, length, get_or, Float}
 use Rattle.std.specs.Float.{nan, binary32, binary64}
 use Rattle.std.specs.Float.Ieee.{round}

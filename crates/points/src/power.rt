@@ -6,6 +6,7 @@ use crate::table::Points;
 
 impl Points {
     // Each of the 64 points times the gain: both of a point's numbers, so every number of the table.
+    #[tactic(auto, using(seq::specs::Tab::Laws::tab_none, seq::specs::Tab::Laws::tab_step, crate::proofs::Scaling::unread))]
     pub fn scaled(&self, gain: f32) -> Points
         ensures bits { result.bps ≡ self.now.bps }
         ensures table { result.pts ≡ scaled_of self.now.pts gain }
@@ -18,6 +19,7 @@ impl Points {
     }
 
     // The sum of the points' powers. By the index, since a point is two numbers of the flat table.
+    #[tactic(auto, using(crate::proofs::Loops::loops), unfolding(crate::specs::Power::energy_turn, crate::specs::Power::energy_of))]
     pub fn energy(&self) -> f32
         ensures { result ≡ energy_of self.now.pts self.now.bps }
     {
@@ -29,6 +31,7 @@ impl Points {
     }
 
     // The mean power of a point at the gain.
+    #[tactic(auto, unfolding(crate::specs::Power::mean_energy_of))]
     pub fn mean_energy(&self, gain: f32) -> f32
         ensures { result ≡ mean_energy_of self.now.pts self.now.bps gain }
     {

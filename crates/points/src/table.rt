@@ -1,5 +1,5 @@
 ghost use Rattle.std.specs.Prelude.{◌≡◌, ◌^◌, ◌<◌, ◌≤◌};
-ghost use Rattle.points.specs.Table.{blank, point_at, put_at};
+ghost use Rattle.points.specs.Table.{point_at};
 
 use dsp::Complex;
 
@@ -25,29 +25,16 @@ impl Points {
         requires { k < 64 }
         ensures { result ≡ point_at self.now.pts k }
     {
-        Complex::new(self.pts[2 * k], self.pts[2 * k + 1])
+        Complex::at(&self.pts, k)
     }
 }
 
 // How many labels of so many bits there are.
+#[tactic(auto, using(crate::proofs::Counts::at_most_64))]
 pub fn count(bps: usize) -> usize
     requires { bps ≤ 6 }
     ensures exact { result ≡ 2 ^ bps }
     ensures few { result ≤ 64 }
 {
     1 << bps
-}
-
-pub fn blank() -> [f32; 128]
-    ensures { result ≡ blank }
-{
-    [0f32; 128]
-}
-
-pub fn put(pts: &mut [f32; 128], k: usize, x: Complex)
-    requires { k < 64 }
-    ensures { pts.new ≡ put_at pts.old k x }
-{
-    pts[2 * k] = x.re;
-    pts[2 * k + 1] = x.im;
 }

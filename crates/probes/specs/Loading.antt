@@ -5,9 +5,9 @@ use Rattle.load.specs.Find.{found_at}
 use Rattle.layout.specs.Layouts.{layout_of}
 use Rattle.load.specs.Fit.{source_of, ncell, FitSource, Room}
 use Rattle.load.specs.Work.{Loads}
-use Rattle.probes.specs.declared.pilots.Settings.{Settings}
+use Rattle.probes.specs.declared.pilots.LoadSettings.{LoadSettings}
 
-abbrev pub source_for : Settings → Source
+abbrev pub source_for : LoadSettings → Source
 source_for t = source_of (layout_of t.layout) t.sparse t.gain t.nsym t.boost t.p_h t.es
 
 pub record Small (s : Source) : Type 0 where
@@ -21,7 +21,7 @@ pub record Long (s : Source) (sigma cells expected : List Float) : Type 0 where
   pub in_cells : ncell s ≤ length cells
   pub in_expected : 3 * ncell s ≤ length expected
 
-pub record Sourced (t : Settings) (s : Source) : Type 0 where
+pub record Sourced (t : LoadSettings) (s : Source) : Type 0 where
   pub is : s ≡ source_for t
   pub small : Small s
   pub fit : (sigma cells expected : List Float) → Long s sigma cells expected → FitSource s sigma cells expected
@@ -36,7 +36,7 @@ pub record Lent (nsym : ℕ) (s : Source) (grid sigma cells expected : List Floa
   pub long : Long s sigma cells expected
   pub room : Room s grid w pf
 
-pub record Loading (t : Settings) (grid sigma cells expected : List Float) (w₀ : List ℕ) (pf₀ : List Float) (w : List ℕ) (pf : List Float) (r : ℕ) : Type 0 where
+pub record Loading (t : LoadSettings) (grid sigma cells expected : List Float) (w₀ : List ℕ) (pf₀ : List Float) (w : List ℕ) (pf : List Float) (r : ℕ) : Type 0 where
   pub loads : Lent t.nsym (source_for t) grid sigma cells expected w₀ pf₀ → Loads (source_for t) grid (found_at (source_for t) sigma cells expected) w pf r
   pub short : (Lent t.nsym (source_for t) grid sigma cells expected w₀ pf₀ → ⊥) → (r ≡ 0) × (w ≡ w₀) × (pf ≡ pf₀)
   pub either : (r ≡ 0) ⊎ Lent t.nsym (source_for t) grid sigma cells expected w₀ pf₀

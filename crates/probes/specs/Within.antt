@@ -7,7 +7,8 @@ use Rattle.soft.specs.declared.moments.Soft.{Soft}
 unfoldable pub within : Bool → Float → Float
 within inside v = cond inside v nan
 
--- the n numbers `new` stand in front of the old list, and 1 is answered; where they do not fit, the list is as before and the answer 0
+-- the n numbers `new` stand in front of the old list, and 1 is answered; where they do not fit, the list is as before
+-- and the answer 0
 pub record Put (fits : Bool) (n : ℕ) (new old : List Float) (r : ℕ) (after : List Float) : Type 0 where
   pub answer : r ≡ cond fits 1 0
   pub written : after ≡ cond fits (new ++ drop n old) old

@@ -7,7 +7,7 @@ ghost use Rattle.points.specs.Power.{scaled_of, mean_energy_of};
 ghost use Rattle.soft.specs.Soft.{softplus_of, soft_point, loud_of};
 ghost use Rattle.probes.specs.Within.{Put, flat_soft};
 
-use crate::lists::{put3, put128};
+use crate::lists::put;
 use dsp::Complex;
 use points::Points;
 
@@ -19,7 +19,7 @@ pub fn probe_points(code: u32, out: &mut [f32]) -> usize
         return 0;
     }
     let t = points::points(code);
-    put128(out, &t.pts);
+    put(out, &t.pts);
     t.bps
 }
 
@@ -31,7 +31,7 @@ pub fn probe_scaled(code: u32, gain: f32, out: &mut [f32]) -> u32
     }
     let t = points::points(code);
     let scaled = t.scaled(gain);
-    put128(out, &scaled.pts);
+    put(out, &scaled.pts);
     1
 }
 
@@ -50,7 +50,7 @@ pub fn probe_soft_point(code: u32, gain: f32, llr: &[f32], out: &mut [f32]) -> u
         return 0;
     }
     let s = soft::soft_point(llr, &t.scaled(gain));
-    put3(out, s.mean, s.var);
+    put(out, &[s.mean.re, s.mean.im, s.var]);
     1
 }
 
@@ -62,7 +62,7 @@ pub fn probe_soft_point_of(pts: &[f32; 128], bps: usize, llr: &[f32], out: &mut 
         return 0;
     }
     let s = soft::soft_point(llr, &Points { bps, pts: *pts });
-    put3(out, s.mean, s.var);
+    put(out, &[s.mean.re, s.mean.im, s.var]);
     1
 }
 

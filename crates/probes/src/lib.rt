@@ -1,4 +1,5 @@
-// The leaf functions for the comparison with the Rust, which `probes_c` exports. None has a `requires`: each says what it answers to anything.
+// The leaf functions for the comparison with the Rust, which `probes_c` exports. None has a `requires`: each says what
+// it answers to anything.
 #![tactic(auto)]
 
 mod cells;
@@ -17,13 +18,13 @@ pub use constellations::{
     probe_soft_point_of, probe_softplus,
 };
 pub use functions::{probe_cos, probe_exp, probe_gain, probe_ln, probe_ln_1p, probe_sin};
-pub use likelihoods::{Received, probe_decide, probe_demap};
-pub use lists::put3;
+pub use likelihoods::{FlatCell, probe_decide, probe_demap};
+pub use lists::put;
 pub use numbers::{
     probe_abs64, probe_clamp32, probe_clamp64, probe_is_finite32, probe_max32, probe_max64,
     probe_narrow, probe_sqrt32, probe_sqrt64,
 };
-pub use pilots::{Settings, probe_load};
+pub use pilots::{LoadSettings, probe_load};
 pub use slots::{
     probe_from_slots, probe_interleave_step, probe_mix32, probe_scramble, probe_slot,
     probe_to_slots,

@@ -14,7 +14,7 @@ use points::Points;
 // demap's Cell: y, the estimate h and its error, and the noise.
 #[repr(C)]
 #[derive(Clone, Copy)]
-pub struct Received {
+pub struct FlatCell {
     pub y_re: f32,
     pub y_im: f32,
     pub h_re: f32,
@@ -23,10 +23,10 @@ pub struct Received {
     pub sigma2: f32,
 }
 
-impl From<Received> for Cell {
+impl From<FlatCell> for Cell {
     ghost from_gives = { λ received cell. cell ≡ cell_of received };
 
-    fn from(r: Received) -> Cell {
+    fn from(r: FlatCell) -> Cell {
         Cell {
             y: Complex::new(r.y_re, r.y_im),
             h: Complex::new(r.h_re, r.h_im),
@@ -36,7 +36,7 @@ impl From<Received> for Cell {
     }
 }
 
-pub fn probe_demap(pts: &[f32; 128], bps: usize, r: Received, out: &mut [f32]) -> u32
+pub fn probe_demap(pts: &[f32; 128], bps: usize, r: FlatCell, out: &mut [f32]) -> u32
     ensures { Put (leb bps 6 && leb bps (length out.old)) bps (likelihoods (cell_of r) pts.now bps) out.old result out.new }
 {
     if bps > 6 || out.len() < bps {
@@ -47,7 +47,7 @@ pub fn probe_demap(pts: &[f32; 128], bps: usize, r: Received, out: &mut [f32]) -
 }
 
 // The variances are not read.
-pub fn probe_decide(pts: &[f32; 128], bps: usize, r: Received, out: &mut [f32]) -> u32
+pub fn probe_decide(pts: &[f32; 128], bps: usize, r: FlatCell, out: &mut [f32]) -> u32
     ensures { Put (leb bps 6 && leb 2 (length out.old)) 2 (flat (decide_of (cell_of r).y (cell_of r).h pts.now bps)) out.old result out.new }
 {
     if bps > 6 || out.len() < 2 {

@@ -5,13 +5,13 @@ ghost use Rattle.load.specs.Fit.{Room};
 ghost use Rattle.probes.specs.Loading.{Small, Sourced, Long, Misses, Loading};
 
 use layout::Map;
-use load::Source;
+use load::{Loader, Source};
 
 // Layout by number, sparse pilots, the data pilots' gain, data symbols, the reference symbol's boost, the channel's
 // mean power, the points' mean energy.
 #[repr(C)]
 #[derive(Clone, Copy)]
-pub struct Settings {
+pub struct LoadSettings {
     pub layout: u32,
     pub sparse: bool,
     pub gain: f32,
@@ -21,7 +21,8 @@ pub struct Settings {
     pub es: f32,
 }
 
-fn source_of(s: Settings) -> Source
+// Not a `From`, which would take any nsym.
+fn source_of(s: LoadSettings) -> Source
     requires { s.nsym ≤ 1023 }
     ensures { Sourced s result }
 {
@@ -57,7 +58,7 @@ fn no_room(s: Source, grid: &[f32], w: &[u32], pf: &[f32]) -> bool
 }
 
 pub fn probe_load(
-    s: Settings,
+    s: LoadSettings,
     grid: &[f32],
     sigma: &[f32],
     cells: &[f32],
@@ -74,5 +75,12 @@ pub fn probe_load(
     if short(source, sigma, cells, expected) || no_room(source, grid, w, pf) {
         return 0;
     }
-    load::load(source, grid, sigma, cells, expected, w, pf)
+    let l = Loader {
+        source,
+        grid,
+        sigma,
+        cells,
+        expected,
+    };
+    l.load(w, pf)
 }

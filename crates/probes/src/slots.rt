@@ -1,4 +1,5 @@
-// bits: what has no answer gives 0, since C has no Option, and a list that does not fit is left as it was.
+// bits: what has no answer gives 0, since C has no Option, and a list that does not fit is left as it was. n is the
+// burst's number of bits: C may lend longer lists, and a prior list may be shorter.
 ghost use Rattle.std.specs.Prelude.{◌≡◌, cond, ◌&&◌, leb, ltb, length};
 ghost use Rattle.bits.specs.Mix.{mix_of, scramble_of};
 ghost use Rattle.bits.specs.Step.{step_of};

@@ -1,4 +1,5 @@
-// layout: what has no answer gives 0xFFFF or 0, and a layout is a number, as C asks. Numbers past 8 name the last.
+// layout: what has no answer gives 0xFFFF or 0, a layout is a number and its pilots' pattern a flag, since C has no
+// Option and no enum with values. Numbers past 8 name the last.
 ghost use Rattle.std.specs.Prelude.{◌≡◌, cond, not, ◌&&◌, leb, ltb, length};
 ghost use Rattle.ieee.specs.Num.{one32};
 ghost use Rattle.layout.specs.Layouts.{layout_of};

@@ -1,4 +1,5 @@
-// elementary: outside a function's domain the answer is a not-a-number, since C has no Option.
+// elementary: outside a function's domain the answer is a not-a-number, since C has no Option. Sine and cosine stand
+// apart, as all functions here, since C passes no closure. A gain is named by its code.
 ghost use Rattle.std.specs.Prelude.{◌≡◌, not, leb};
 ghost use Rattle.std.specs.Float.Ieee.{lt, le, neg};
 ghost use Rattle.elementary.specs.Constants.{zero+, unit, least, most};

@@ -1,4 +1,5 @@
-// The leaf functions under their C names, for the comparison with the Rust.
+// The leaf functions of `probes` under their C names, for the comparison with the Rust. Each is said again here, since
+// a crate is a library or a static library, and `vectors` and `bursts` use the library.
 #![tactic(auto)]
 
 mod cells;

@@ -4,11 +4,11 @@ ghost use Rattle.std.specs.Prelude.{◌≤◌};
 ghost use Rattle.load.specs.Fit.{Room};
 ghost use Rattle.probes.specs.Loading.{Small, Sourced, Long, Misses, Loading};
 
-use probes::Settings;
+use probes::LoadSettings;
 
 #[unsafe(no_mangle)]
 pub extern "C" fn probe_load(
-    s: Settings,
+    s: LoadSettings,
     grid: &[f32],
     sigma: &[f32],
     cells: &[f32],

@@ -19,7 +19,7 @@ use Rattle.table.specs.Refusals.{refusal_of}
 use Rattle.table.specs.Refusals.{lent}
 use Rattle.table.specs.Table as lists
 use Rattle.table.specs.Table.{plain, silent, blank}
-use Rattle.scan.proofs.Tests.{true_false}
+use Rattle.std.proofs.lemmas.Bool.{true≢false}
 use Rattle.table.proofs.Exact as lists-exact
 use Rattle.table.proofs.Accepting as lists-accepting
 use Rattle.wire.specs.Layout.{Holds}
@@ -47,7 +47,7 @@ some_finite (suc n) (suc m) = some_finite n m
 -- row 7 under other priors, none of them at fault
 other_priors : (g v c p q s : Bool) → q ≡ true → not g || (not v || (not c || (not p || s))) ≡ false → not g || (not v || (not c || (not q || s))) ≡ false
 other_priors true true true true q s e h = rw e h
-other_priors true true true false q s e h = absurd (true_false h)
+other_priors true true true false q s e h = absurd (true≢false h)
 other_priors true true false p q s e h = h
 other_priors true false c p q s e h = h
 other_priors false v c p q s e h = h

@@ -14,7 +14,7 @@ use Rattle.table.specs.Rows.{bad_layout, bad_codes, bad_symbols, bad_grid, bad_v
 use Rattle.table.specs.Refusals.{refusal_of}
 use Rattle.table.specs.Table.{First}
 use Rattle.table.proofs.Exact.{first_none, next, rest}
-use Rattle.scan.proofs.Tests.{true_false}
+use Rattle.std.proofs.lemmas.Bool.{true≢false}
 use Rattle.wire.specs.Record.{fields, fields_of, settings, settings_of, burst_of, prior_of}
 use Rattle.wire.specs.Shape.{bad_record, bad_length, shape_refusal}
 use Rattle.record.specs.Refusals.{refusal_in}
@@ -44,8 +44,8 @@ of_first : (ts : List Bool) (ns : List ℕ) (n k : ℕ) → First ts k → get_o
 of_first [] ns n k f e = absurd (first_none f)
 of_first (t ∷ ts) [] n k f e = absurd (omega arith)
 of_first (true ∷ ts) (m ∷ ns) n zero f e = e
-of_first (true ∷ ts) (m ∷ ns) n (suc k) f e = absurd (true_false (f.above 0 (omega arith)))
-of_first (false ∷ ts) (m ∷ ns) n zero f e = absurd (true_false (sym f.here))
+of_first (true ∷ ts) (m ∷ ns) n (suc k) f e = absurd (true≢false (f.above 0 (omega arith)))
+of_first (false ∷ ts) (m ∷ ns) n zero f e = absurd (true≢false (sym f.here))
 of_first (false ∷ ts) (m ∷ ns) n (suc k) f e = of_first ts ns n k (rest f) e
 
 none_of : (ts : List Bool) (ns : List ℕ) → Numbered ts ns → given ts ns ≡ 0 → (k : ℕ) → get_or ts k false ≡ false
@@ -59,7 +59,7 @@ none_of (false ∷ ts) (suc n ∷ ns) h e (suc k) = none_of ts ns h e k
 of_none : (ts : List Bool) (ns : List ℕ) → ((k : ℕ) → get_or ts k false ≡ false) → given ts ns ≡ 0
 of_none [] ns h = refl
 of_none (t ∷ ts) [] h = refl
-of_none (true ∷ ts) (n ∷ ns) h = absurd (true_false (h 0))
+of_none (true ∷ ts) (n ∷ ns) h = absurd (true≢false (h 0))
 of_none (false ∷ ts) (n ∷ ns) h = of_none ts ns (λ k. h (suc k))
 
 -- ---- the rows that no record reaches

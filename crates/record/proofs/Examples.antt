@@ -12,7 +12,7 @@ use Rattle.layout.specs.Sizes.{pattern_of, data_carriers_of}
 use Rattle.layout.specs.Patterns.{pilots_of}
 use Rattle.refine.specs.Refine.{nbits}
 use Rattle.table.specs.Table.{plain}
-use Rattle.scan.proofs.Tests.{neither}
+use Rattle.std.proofs.lemmas.Bool.{or_parts}
 use Rattle.wire.specs.Record.{head, fields, fields_of, settings, settings_of, burst_of, count_of}
 use Rattle.wire.specs.Layout.{head_of, head_bytes, laid_out}
 use Rattle.wire.specs.Shape.{bad_record, bad_length, bits_of}
@@ -50,8 +50,8 @@ long priors = length_silent (plain 7 0 1 false false 0 20) priors
 fitting : (rec : List ℕ) → bad_record rec ≡ false → bad_length rec ≡ false → (length rec ≤ 8192) × (length rec ≡ 6 + 4 * count_of rec)
 unfolding bad_record bad_length
 fitting rec r l =
-    let t = (neither (ltb (length rec) 6) _ r).1 in
-    (ltb-false 8192 (length rec) (neither (ltb 8192 (length rec)) _ t).0, eqb-true _ _ (not-false _ l))
+    let t = (or_parts (ltb (length rec) 6) _ r).1 in
+    (ltb-false 8192 (length rec) (or_parts (ltb 8192 (length rec)) _ t).0, eqb-true _ _ (not-false _ l))
 
 fits : (rec : List ℕ) (room : Bool) → refusal_in rec room ≡ 0 → (length rec ≤ 8192) × (length rec ≡ 6 + 4 * count_of rec)
 unfolding rows

@@ -21,7 +21,8 @@ pub record OwnPriors (rec rec' : List ℕ) (j : ℕ) : Type 0 where
 unfoldable pub SameLikelihoods : (rec : List ℕ) → ℕ → List ℕ → List ℕ → Type 0
 SameLikelihoods rec j out out' = (i : ℕ) → i < nbits (burst_of rec) → OwnBit (burst_of rec) j i → SameBytes (10 + 4 * i) 4 out out'
 
--- Where the first six bytes written (model and scale) are the same, so are those of cell j, whatever the outputs held and however long they are.
+-- Where the first six bytes written (model and scale) are the same, so are those of cell j, whatever the outputs held
+-- and however long they are.
 unfoldable pub Independence : Type 0
 Independence =
     (rec rec' : List ℕ) (j : ℕ) → OwnPriors rec rec' j

@@ -1,5 +1,6 @@
--- The table of causes is exact for a record: it is given the number of the first row that turns it away, and 0 where none does. Proved in proofs/Exact.antt;
--- what is said below of bursts laid out in proofs/AsLists.antt, and that records of every kind are accepted in proofs/Accepting.antt.
+-- The table of causes is exact for a record: it is given the number of the first row that turns it away, and 0 where
+-- none does. Proved in proofs/Exact.antt; what is said below of bursts laid out in proofs/AsLists.antt, and that
+-- records of every kind are accepted in proofs/Accepting.antt.
 use Rattle.std.specs.Prelude.{ℕ, ◌+◌, ◌^◌, ◌<◌, ◌≤◌, ◌≡◌, Bool, true, false, not, List, [], ◌∷◌, ◌↔◌, length, get_or, Float}
 use Rattle.refine.specs.declared.settings.Settings.{Settings}
 use Rattle.refine.specs.Refine.{Burst}
@@ -27,7 +28,8 @@ module _ (rec : List ℕ) where
       ∷ bad_numbers s b.grid b.sigma b.cells (prior_of rec)
       ∷ []
 
-  -- Rows 4 and 5 hold for no record: its burst is read with the lengths that its fields give. Nor does row 2: both codes have two bits.
+  -- Rows 4 and 5 hold for no record: its burst is read with the lengths that its fields give. Nor does row 2: both
+  -- codes have two bits.
   pub record Unreached : Type 0 where
     pub codes : bad_codes (settings rec) ≡ false
     pub grid : bad_grid (settings rec) (burst_of rec).grid ≡ false

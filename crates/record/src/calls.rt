@@ -9,6 +9,7 @@ use cause::Cause;
 use wire::{fields_of, head, numbers, sizes_in};
 
 // A record whose shape is accepted, with room for the answer.
+#[tactic(auto, using(crate::proofs::Cutting::bits_counted, crate::proofs::Cutting::cells_counted))]
 fn judge_record(record: &[u8], out: &mut [u8], channel: &mut [u8]) -> Result<(), Cause>
     requires shaped { shape_refusal «record».now ≡ 0 }
     requires out_room { answer_length «record».now ≤ length out.old }
@@ -23,7 +24,8 @@ fn judge_record(record: &[u8], out: &mut [u8], channel: &mut [u8]) -> Result<(),
     judge(fields_of(head(record)), nums, out, channel)
 }
 
-// Writes the answer to out, each data cell's estimate and error to channel; or returns the cause and leaves both as they were.
+// Writes the answer to out, each data cell's estimate and error to channel; or returns the cause and leaves both as
+// they were.
 pub fn refine_record_channel(record: &[u8], out: &mut [u8], channel: &mut [u8]) -> Result<(), Cause>
     ensures { AnswersBoth «record».now (number_of result) out.old out.new channel.old channel.new }
 {

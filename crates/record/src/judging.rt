@@ -9,8 +9,9 @@ use cause::Cause;
 use refine::{BurstGrid, Refined};
 use wire::{Fields, put_answer, put_numbers, sizes_of};
 
-// A record of 8,192 bytes has at most 2,043 numbers past boost, pilot gain and p_h. Cell variances and grid take ncell + 2 × ng × nc of them, so that
-// 3 × ncell is at most 2,043, nbits twice and the work area's nbits + 12 × ng × nc six times as much.
+// A record of 8,192 bytes has at most 2,043 numbers past boost, pilot gain and p_h. Cell variances and grid take
+// ncell + 2 × ng × nc of them, so that 3 × ncell is at most 2,043, nbits twice and the work area's nbits + 12 × ng × nc
+// six times as much.
 
 // With a work area of its own.
 fn refine_alone(
@@ -53,6 +54,7 @@ fn refine_numbers(
 }
 
 // A refused burst leaves both outputs as they were.
+#[tactic(auto, using(crate::proofs::Cutting::few))]
 pub(crate) fn judge(
     f: Fields,
     nums: &[f32],

@@ -3,7 +3,8 @@ ghost use Rattle.std.specs.Prelude.{◌≡◌};
 ghost use Rattle.wire.specs.Shape.{bits_of};
 ghost use Rattle.record.specs.Answer.{Answers, AnswersBoth};
 
-// Returns 0 and writes the answer to out, each data cell's estimate and error to channel; or returns the cause and leaves both as they were.
+// Returns 0 and writes the answer to out, each data cell's estimate and error to channel; or returns the cause and
+// leaves both as they were.
 #[unsafe(no_mangle)]
 pub extern "C" fn refine_record_channel(record: &[u8], out: &mut [u8], channel: &mut [u8]) -> u32
     ensures { AnswersBoth «record».now result out.old out.new channel.old channel.new }

@@ -2,18 +2,12 @@
 use Prim.Native.Nat.{ℕ, ◌+◌, ◌*◌}
 use native.Mathlib.Nat.{suc-mul, zero-mul}
 use native.Mathlib.Numerals.{add-one}
-use mathlib.Core.Path.{◌≡◌, ap, sym, ◌∙◌}
-use mathlib.Core.Bool.{Bool, true, false, cond}
 use mathlib.Core.List.{List}
-use native.Mathlib.Omega.{arith}
 use lib.Ieee.{Float}
 use Rattle.load.specs.Pilots.{listed}
 use Rattle.judge.specs.declared.symbol.Judge.{Judge}
 use Rattle.judge.specs.Symbol.{fitted_in, JudgedUpto}
 use Rattle.judge.proofs.Laws.{start_upto}
-
-pub not_both : {A : Type 0} (b : Bool) → b ≡ false → b ≡ true → A
-not_both b f t = absurd (omega (arith, ap {B = ℕ} (λ (x : Bool). cond x 0 1) (sym f ∙ t)))
 
 module _ (j : Judge) (e a : List Float) where
   pub upto_none : JudgedUpto j (0 * j.source.dc) e a e a

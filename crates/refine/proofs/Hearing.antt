@@ -8,16 +8,16 @@ use Rattle.bits.specs.Slots.{slot_priors}
 use Rattle.expect.specs.declared.Shape.{Shape}
 use Rattle.expect.specs.Expect.{soft_cells, expected_of}
 use Rattle.expect.specs.Contract.{Expects}
+use Rattle.judge.proofs.Rows.{whole}
 use Rattle.refine.specs.Front.{Expected}
-use Rattle.refine.proofs.Exact.{exact}
 
 pub heard : (m : Shape) (unit prior old slots soft₀ soft channel₀ channel : List Float)
     → length soft₀ ≡ m.nsym * m.dc * 3 → length channel₀ ≡ m.nsym * m.dc * 3
     → slots ≡ slot_priors (length old) prior ++ drop (length old) old → Expects m unit slots soft₀ soft channel₀ channel
     → Expected m unit prior (length old) soft channel
 heard m unit prior old slots soft₀ soft channel₀ channel hs hc e x =
-    let s = e ∙ exact (length old) (slot_priors (length old) prior) old refl in
+    let s = e ∙ whole (length old) (slot_priors (length old) prior) old refl in
     record {
-      cells = x.expected ∙ (exact _ _ channel₀ hc ∙ ap (expected_of m unit) s);
-      points = λ u. x.points u ∙ (exact _ _ soft₀ hs ∙ ap (soft_cells unit m.bps (m.nsym * m.dc)) s);
+      cells = x.expected ∙ (whole _ _ channel₀ hc ∙ ap (expected_of m unit) s);
+      points = λ u. x.points u ∙ (whole _ _ soft₀ hs ∙ ap (soft_cells unit m.bps (m.nsym * m.dc)) s);
     }

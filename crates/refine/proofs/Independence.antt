@@ -1,4 +1,5 @@
--- The theorem: a cell's estimate is made of the other cells' pilots, and its likelihoods of its estimate, its sample and its variance. Assumes nothing.
+-- The theorem: a cell's estimate is made of the other cells' pilots, and its likelihoods of its estimate, its sample
+-- and its variance. Assumes nothing.
 use Prim.Native.Nat.{ℕ, suc, ◌+◌, ◌-◌, ◌*◌, ◌≤◌, ◌<◌}
 use mathlib.Core.Path.{◌≡◌, refl, sym, ap, ap₂, ◌∙◌}
 use mathlib.Core.Bool.{Bool, false, cond}

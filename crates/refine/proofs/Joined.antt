@@ -23,13 +23,13 @@ use Rattle.model.specs.Select.{select_model}
 use Rattle.expect.specs.declared.Shape.{Shape}
 use Rattle.judge.specs.Cells.{numbers_of, estimate_at}
 use Rattle.judge.specs.Judge.{judged}
+use Rattle.judge.proofs.Rows.{whole}
 use Rattle.refine.specs.declared.settings.Plan.{Plan}
 use Rattle.refine.specs.Refine.{Burst, unit, nsym, dc, ncell, nbits, source, shape, expected, soft_points, found, pilots, starts, slots, model, estimate_under, estimate, channel_of, slot_likelihoods, answer_of, spoilt_of, refined_of, Refines, fitted_of, carrier_table, symbol_table, setting}
 use Rattle.refine.specs.Plan.{plan_for, unit_for}
 use Rattle.refine.specs.Front.{cell_length, Listened}
 use Rattle.refine.specs.Back.{Agrees, Symbols, Under}
 use Rattle.refine.specs.Whole.{pilots_in, starts_in, soft_in, InWork, ExactFit, Rejudged, RefinesExactly}
-use Rattle.refine.proofs.Exact.{exact}
 use Rattle.refine.proofs.Ready.{ready, agrees, symbols}
 
 -- ---- the pilots in the work lists
@@ -89,10 +89,10 @@ module _ (b : Burst) (prior : List Float) (wf : List Float) (wu : List ℕ) (np 
       record {
         chosen = chosen;
         likelihoods = u.1.answer
-            ∙ (exact _ _ a ha
+            ∙ (whole _ _ a ha
             ∙ (cat-same (ncell b) _ _ (λ cell h. judged_soft (source b) (shape b) (unit b) _ _ b.grid b.cells est cell b.settings.spread refl soft_is)
             ∙ ap (λ (g : ℕ → Estimate). cat (ncell b) (judged (source b) (shape b) (unit b) (soft_points b prior) b.grid b.cells g)) same));
-        estimates = u.1.channel ∙ (exact (nsym b * dc b * 3) _ e (omega (arith, he)) ∙ ap (λ (g : ℕ → Estimate). cat (ncell b) (λ cell. numbers_of (g cell))) same);
+        estimates = u.1.channel ∙ (whole (nsym b * dc b * 3) _ e (omega (arith, he)) ∙ ap (λ (g : ℕ → Estimate). cat (ncell b) (λ cell. numbers_of (g cell))) same);
       }
 
 -- ---- the same by a plan

@@ -1,4 +1,3 @@
-mod Exact
 mod Hearing
 mod EachSymbol
 mod Sliced

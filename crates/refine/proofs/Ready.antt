@@ -7,10 +7,9 @@ use native.Mathlib.Omega.{arith}
 use lib.ListN.{length, take, drop, length-drop}
 use lib.Seq.{length-take-le}
 use lib.Ieee.{Float}
-use Rattle.bits.specs.Slots.{longest}
 use Rattle.layout.specs.Layouts.{layout_of}
 use Rattle.layout.specs.Maps.{map_of}
-use Rattle.layout.specs.Sizes.{LayoutBounds, BurstBounds, pre_syms, data_carriers_of, ncell_of, nbits_of}
+use Rattle.layout.specs.Sizes.{LayoutBounds, BurstBounds, pre_syms, data_carriers_of, ncell_of}
 use Rattle.points.specs.Constellation.{bps_of}
 use Rattle.layout.proofs.Bounds.{bounds}
 use Rattle.points.proofs.Laws.{points_laws}
@@ -112,12 +111,9 @@ module _ (b : Burst) (answer channel wf : List Float) (wu : List ℕ) (x : Exact
         long_answer = rw n (omega (arith, ha, x.whole_answer));
       }
 
-  -- room in the work list for as many numbers as the answer has
-  pub in_room : (k : ℕ) (wf₁ : List Float) → k ≡ length answer → length wf₁ ≡ length wf → length (take k wf₁) ≡ k
-  in_room k wf₁ ha hf = length-take-le k wf₁ (omega (arith, ha, hf, x.whole_answer, f.in_wf))
-
-  pub bits_fit : (k : ℕ) → k ≡ length answer → (0 < k) × (k ≤ longest)
-  bits_fit k ha = (omega (arith, ha, ready.some), omega (arith, ha, ready.most))
+  -- the work list has room for as many numbers as the answer has
+  pub room_left : (0 < length answer) × (length answer ≤ 607662) × (length answer ≤ length wf)
+  room_left = (ready.some, ready.most, omega (arith, x.whole_answer, f.in_wf))
 
 -- ---- sizes by the settings
 
@@ -127,9 +123,6 @@ module _ (s : Settings) (low : 1 ≤ s.nsym) (high : s.nsym ≤ 1023) where
 
   pub cells_most : ncell_of (layout_of s.layout) s.sparse s.nsym ≤ 101277
   cells_most = sized.ncell_high
-
-  pub bits_most : nbits_of (layout_of s.layout) s.sparse s.nsym (bps_of s.constellation) ≤ longest
-  bits_most = sized.nbits_high
 
 -- ---- the parts of answer and channel list that the burst has
 

@@ -5,7 +5,6 @@ use lib.Ieee.{Float}
 use Rattle.load.specs.Pilots.{OnGrid}
 use Rattle.est.specs.declared.estimator.Estimator.{Estimator}
 use Rattle.model.specs.declared.select.Model.{Model}
-use Rattle.model.specs.Score.{Fit}
 use Rattle.model.specs.Values.{window_of}
 use Rattle.judge.specs.declared.estimates.Fitted.{Fitted}
 use Rattle.judge.specs.Fit.{Fits}
@@ -14,9 +13,6 @@ use Rattle.refine.specs.Refine.{fitted_of}
 use Rattle.refine.specs.Back.{Judgeable}
 
 module _ (h : Heard) (channel answer : List Float) (j : Judgeable h channel answer) where
-  pub may_choose : Fit h.plan.setting h.pilots
-  may_choose = let a = j.agrees in record { loaded = rw (a.nc, a.ng) j.loaded; some = a.some; most = a.most }
-
   module _ (m : Model) (f : Fitted) (e : f ≡ fitted_of h.plan.setting m) where
     pub window_is : f.w ≡ window_of h.plan.setting.l h.plan.setting.ng h.plan.setting.k
     unfolding fitted_of

@@ -43,7 +43,8 @@ pub record Ready (p : Plan) (grid sigma cells answer channel wf : List Float) (w
   pub in_wf : 3 * places p.source + cell_length p ≤ length wf
   pub in_wu : 2 * places p.source + p.source.ng + 1 ≤ length wu
 
--- what it leaves: the expected values in the channel list, np pilots in the work lists, and past their numbers a spread burst's soft points
+-- what it leaves: the expected values in the channel list, np pilots in the work lists, and past their numbers a
+-- spread burst's soft points
 pub record Listened (p : Plan) (unit prior : List Float) (n : ℕ) (grid sigma cells channel wf : List Float) (wu : List ℕ) (np : ℕ) : Type 0 where
   pub expected : channel ≡ expected_of p.shape unit (slot_priors n prior)
   pub points : p.shape.spread ≡ true

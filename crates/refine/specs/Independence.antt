@@ -1,6 +1,7 @@
--- Demand 3: two refinements of one unspread burst that share all priors but those of data cell j, and report one model and scale,
--- give cell j one estimate, one error and one set of likelihoods. Proved in proofs/Independence.antt.
--- Floats are compared by `≡`: Float has a sign at each number, zero too, and a single `nan`, so this is equality of bits with all not-a-numbers the same.
+-- Demand 3: two refinements of one unspread burst that share all priors but those of data cell j, and report one
+-- model and scale, give cell j one estimate, one error and one set of likelihoods. Proved in
+-- proofs/Independence.antt. Floats are compared by `≡`: Float has a sign at each number, zero too, and a single
+-- `nan`, so this is equality of bits with all not-a-numbers the same.
 use Rattle.std.specs.Prelude.{ℕ, ◌+◌, ◌*◌, ◌≤◌, ◌<◌, ◌≡◌, false, List, get_or, Float}
 use Rattle.std.specs.Float.{nan}
 use Rattle.bits.specs.Slots.{slot_of, nought}
@@ -27,8 +28,8 @@ pub record SameCell (b : Burst) (j : ℕ) (channel channel' answer answer' : Lis
   pub estimate : (t : ℕ) → t < 3 → get_or channel (3 * j + t) nan ≡ get_or channel' (3 * j + t) nan
   pub likelihood : (i : ℕ) → i < nbits b → OwnBit b j i → get_or answer i nan ≡ get_or answer' i nan
 
--- It is said of what the contract promises of two calls, whatever answer and channel list held before and however long they are.
--- An accepted burst has at most 1023 data symbols.
+-- It is said of what the contract promises of two calls, whatever answer and channel list held before and however
+-- long they are. An accepted burst has at most 1023 data symbols.
 unfoldable pub Independence : Type 0
 Independence =
     (b : Burst) → nsym b ≤ 1023 → b.settings.spread ≡ false → (j : ℕ) → j < ncell b → (p q : List Float) → SameBut b j p q

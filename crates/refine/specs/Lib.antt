@@ -4,4 +4,5 @@ pub mod Plan
 pub mod Front
 pub mod Back
 pub mod Whole
+pub mod Fitted
 pub mod Independence

@@ -1,5 +1,5 @@
 // From the loaded pilots to the likelihoods in slot order.
-ghost use Rattle.std.specs.Prelude.{◌≡◌, ◌+◌, ◌*◌, length};
+ghost use Rattle.std.specs.Prelude.{◌≡◌};
 ghost use Rattle.load.specs.Pilots.{listed};
 ghost use Rattle.judge.specs.Fit.{Fits};
 ghost use Rattle.model.specs.Select.{select_model};
@@ -26,6 +26,7 @@ pub struct Heard<'w, 'b> {
     pub cells: &'b [f32],
 }
 
+// `Judgeable` is a clause, since it bounds the lists that are lent too.
 impl Heard<'_, '_> {
     // By an estimator.
     fn judge_with(&self, e: &Estimator, channel: &mut [f32], answer: &mut [f32])
@@ -48,45 +49,23 @@ impl Heard<'_, '_> {
         judge_symbols(&j, channel, answer);
     }
 
-    // Under model m, whose correlations go to rf and rt.
-    fn judge_by(
-        &self,
-        m: Model,
-        rf: &mut [f64],
-        rt: &mut [f64],
-        channel: &mut [f32],
-        answer: &mut [f32],
-    )
-        requires judgeable { Judgeable self.now channel.old answer.old }
-        requires tables { (length rf.old ≡ 2 * self.now.plan.setting.l.nc + 1) × (length rt.old ≡ 4 * self.now.plan.setting.l.gw + 1) }
+    // Under model m.
+    pub fn judge_under(&self, m: Model, channel: &mut [f32], answer: &mut [f32])
+        requires { Judgeable self.now channel.old answer.old }
         ensures { JudgedUnder self.now m channel.old answer.old channel.new answer.new }
     {
         let p = self.plan;
-        let f = fit(p.setting, m, rf, rt);
+        let (f, t) = fit(p.setting, m);
         let e = Estimator {
             pilots: self.pilots,
-            rf,
-            rt,
+            rf: t.rf(),
+            rt: t.rt(),
             scales: f.u,
             window: f.w,
             p_h: p.source.p_h,
             mse_scale: f.scale,
         };
         self.judge_with(&e, channel, answer);
-    }
-
-    // Under model m.
-    pub fn judge_under(&self, m: Model, channel: &mut [f32], answer: &mut [f32])
-        requires { Judgeable self.now channel.old answer.old }
-        ensures { JudgedUnder self.now m channel.old answer.old channel.new answer.new }
-    {
-        let l = self.plan.setting.l;
-        // Room for the most carriers, 109, and the most symbols, 12 to each side.
-        let mut rf = [0f64; 219];
-        let mut rt = [0f64; 49];
-        let rf = &mut rf[..2 * l.nc + 1];
-        let rt = &mut rt[..4 * l.gw + 1];
-        self.judge_by(m, rf, rt, channel, answer);
     }
 
     // Under the model that the pilots bear out best.

@@ -9,8 +9,9 @@ use load::Source;
 use model::Setting;
 use points::Points;
 
-// What a burst's header and the station say of it: layout and constellation by number, data symbols, sparse pilots, DFT-spread symbols, the
-// code of the points' gain, pilots an estimate may use, the reference symbol's boost, the data pilots' gain, the channel's mean power.
+// What a burst's header and the station say of it: layout and constellation by number, data symbols, sparse pilots,
+// DFT-spread symbols, the code of the points' gain, pilots an estimate may use, the reference symbol's boost, the
+// data pilots' gain, the channel's mean power.
 #[repr(C)]
 #[derive(Clone, Copy)]
 pub struct Settings {
@@ -26,7 +27,8 @@ pub struct Settings {
     pub p_h: f32,
 }
 
-// The same as the steps of the path take them.
+// The same as the steps of the path take them. That the parts agree (`Agrees`) is a clause: `plan_for` has a plan of
+// any settings.
 #[derive(Clone, Copy)]
 pub struct Plan {
     pub source: Source,
@@ -34,7 +36,9 @@ pub struct Plan {
     pub setting: Setting,
 }
 
-// The points that priors and likelihoods are about: a spread symbol's before they are spread and scaled, an unspread cell's as sent.
+// The points that priors and likelihoods are about: a spread symbol's before they are spread and scaled, an unspread
+// cell's as sent.
+#[tactic(auto, using(points::proofs::Laws::points_laws), unfolding(crate::specs::Refine::unit))]
 pub fn unit_points(s: Settings) -> Points
     requires { s.gain_code ≤ 3 }
     ensures bits { result.bps ≡ bps_of s.constellation }
@@ -47,6 +51,7 @@ pub fn unit_points(s: Settings) -> Points
     p.scaled(elementary::gain(s.gain_code))
 }
 
+#[tactic(auto, using(layout::proofs::Fits::layout_fits))]
 pub fn plan_of(s: Settings) -> Plan
     requires { (s.gain_code ≤ 3) × (s.nsym ≤ 1023) }
     ensures { result ≡ plan_for s }

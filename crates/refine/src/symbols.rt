@@ -2,7 +2,6 @@
 ghost use Rattle.std.specs.Prelude.{◌≡◌, true, ◌+◌, ◌*◌, ◌≤◌, length};
 ghost use Rattle.spread.specs.Spreader.{twiddles_of};
 ghost use Rattle.load.specs.Fit.{ncell};
-ghost use Rattle.judge.specs.Fit.{Fits};
 ghost use Rattle.judge.specs.Symbol.{JudgedUpto};
 
 use expect::Shape;
@@ -24,11 +23,11 @@ pub fn spreader_of(m: Shape) -> Spreader
 }
 
 pub fn judge_symbols(j: &Judge, channel: &mut [f32], answer: &mut [f32])
-    requires fits { Fits j.now.source j.now.estimator }
     requires count { j.now.source.ng ≡ j.now.source.map.hdr_end + j.now.shape.nsym }
     requires room { (ncell j.now.source * 3 ≤ length channel.old) × (ncell j.now.source * j.now.shape.bps ≤ length answer.old) }
     ensures { JudgedUpto j.now (j.now.shape.nsym * j.now.source.dc) channel.old answer.old channel.new answer.new }
 {
+    // t numbers the symbol, whose stretches of both lists `symbol` finds.
     for t in 0..j.shape.nsym {
         j.symbol(t, channel, answer);
     }

@@ -7,7 +7,6 @@ ghost use Rattle.load.specs.Fit.{places};
 ghost use Rattle.model.specs.Select.{select_model};
 ghost use Rattle.refine.specs.Refine.{Fit, Refines};
 ghost use Rattle.refine.specs.Received.{burst_of};
-ghost use Rattle.refine.specs.Plan.{unit_for};
 ghost use Rattle.refine.specs.Back.{Agrees, Symbols, Under};
 ghost use Rattle.refine.specs.Front.{cell_length};
 ghost use Rattle.refine.specs.Whole.{pilots_in, starts_in, soft_in, InWork, ExactFit, Rejudged, RefinesExactly};
@@ -16,13 +15,15 @@ use crate::bit_order::to_bit_order;
 use crate::burst_grid::BurstGrid;
 use crate::judging::Heard;
 use crate::listening::{listen, places_of};
-use crate::settings::{Plan, Settings, plan_of, unit_points};
+use crate::planned::Planned;
+use crate::settings::{Settings, plan_of, unit_points};
 use crate::spoilt::spoilt;
 use load::Pilots;
 use model::Model;
-use points::Points;
 
-// The model by its indices, 3 3 where none was borne out, the factor on its errors, and how many likelihoods are not a number.
+// The model by its indices, 3 3 where none was borne out, the factor on its errors, and how many likelihoods are not
+// a number. Indices are numbers, as in `Model`: C is handed them. That they fit a byte is a clause where bytes are
+// made: a ghost field would put its proof into `refined_of`, which mirrors the source.
 #[derive(Clone, Copy)]
 pub struct Refined {
     pub fd: u32,
@@ -31,42 +32,38 @@ pub struct Refined {
     pub spoilt: u32,
 }
 
+// The lists that are lent to be written stay parameters, here and in the crates above: document 01 lends the work area
+// as two. Tried on a function of two lists: one that is lent them as a struct has to promise that the struct still
+// holds the caller's lists, and their lengths.
+
 // From the np pilots of the work lists.
 fn judge_loaded<'b>(
-    p: Plan,
+    b: &Planned<'b>,
     np: usize,
-    unit: &'b Points,
-    b: &BurstGrid<'b>,
     wf: &[f32],
     wu: &[u32],
     channel: &mut [f32],
     answer: &mut [f32],
 ) -> Model
-    requires work { Agrees p × InWork p np wf.now wu.now × (length channel.old ≡ cell_length p) }
-    requires symbols { Symbols p.source p.shape (soft_in p wf.now) b.now.grid.now b.now.cells.now channel.old answer.old }
-    requires bits { unit.now.bps ≡ p.shape.bps }
-    ensures { (result ≡ select_model p.setting (pilots_in p np wf.now wu.now) (starts_in p wu.now)) × Under p result (pilots_in p np wf.now wu.now) (starts_in p wu.now) unit.now.pts (soft_in p wf.now) b.now.grid.now b.now.cells.now channel.old answer.old channel.new answer.new }
+    requires work { Agrees b.now.plan × InWork b.now.plan np wf.now wu.now × (length channel.old ≡ cell_length b.now.plan) }
+    requires symbols { Symbols b.now.plan.source b.now.plan.shape (soft_in b.now.plan wf.now) b.now.burst.grid.now b.now.burst.cells.now channel.old answer.old }
+    ensures { (result ≡ select_model b.now.plan.setting (pilots_in b.now.plan np wf.now wu.now) (starts_in b.now.plan wu.now))
+        × Under b.now.plan result (pilots_in b.now.plan np wf.now wu.now) (starts_in b.now.plan wu.now) b.now.unit.now.pts (soft_in b.now.plan wf.now) b.now.burst.grid.now b.now.burst.cells.now channel.old answer.old channel.new answer.new }
 {
+    let p = b.plan;
     let n = places_of(p.source);
     let s = p.source;
     let a = 3 * n;
     let to = a + channel.len();
-    let c = n + np;
-    let d = 2 * n;
-    let e = d + s.ng + 1;
-    let pilots = Pilots {
-        c: &wu[..np],
-        g: &wu[n..c],
-        f: &wf[..3 * np],
-        start: &wu[d..e],
-    };
+    let pilots = Pilots::of_lists(wu, wf, n, s.ng, np);
+    let g = b.burst;
     let h = Heard {
         plan: p,
         pilots,
-        unit,
+        unit: b.unit,
         soft: &wf[a..to],
-        grid: b.grid,
-        cells: b.cells,
+        grid: g.grid,
+        cells: g.cells,
     };
     h.judge_burst(channel, answer)
 }
@@ -74,20 +71,23 @@ fn judge_loaded<'b>(
 // Over lists of just the burst's length: the likelihoods in slot order.
 fn judge_again(
     b: &BurstGrid,
-    unit: &Points,
     prior: &[f32],
     answer: &mut [f32],
     channel: &mut [f32],
     wf: &mut [f32],
     wu: &mut [u32],
 ) -> Model
-    requires fit { ExactFit (burst_of b.now) answer.old channel.old wf.old wu.old }
-    requires unit { (unit.now.bps ≡ bps_of b.now.settings.constellation) × (unit.now.pts ≡ unit_for b.now.settings) }
+    requires { ExactFit (burst_of b.now) answer.old channel.old wf.old wu.old }
     ensures { Rejudged (burst_of b.now) prior.now result answer.new channel.new }
 {
-    let p = plan_of(b.settings);
-    let np = listen(p, unit, b, prior, answer, channel, wf, wu);
-    judge_loaded(p, np, unit, b, wf, wu, channel, answer)
+    let unit = unit_points(b.settings);
+    let p = Planned {
+        plan: plan_of(b.settings),
+        unit: &unit,
+        burst: *b,
+    };
+    let np = listen(&p, prior, answer, channel, wf, wu);
+    judge_loaded(&p, np, wf, wu, channel, answer)
 }
 
 fn refine_exact(
@@ -101,8 +101,7 @@ fn refine_exact(
     requires { ExactFit (burst_of b.now) answer.old channel.old wf.old wu.old }
     ensures { RefinesExactly (burst_of b.now) prior.now result answer.new channel.new }
 {
-    let unit = unit_points(b.settings);
-    let m = judge_again(b, &unit, prior, answer, channel, wf, wu);
+    let m = judge_again(b, prior, answer, channel, wf, wu);
     let n = answer.len();
     to_bit_order(&mut wf[..n], answer);
     Refined {
@@ -113,6 +112,7 @@ fn refine_exact(
     }
 }
 
+#[tactic(auto, using(layout::proofs::Fits::layout_fits))]
 fn ncell_of(s: Settings) -> usize
     requires { (1 ≤ s.nsym) × (s.nsym ≤ 1023) }
     ensures { (result ≡ ncell_of (layout_of s.layout) s.sparse s.nsym) × (result ≤ 101277) }

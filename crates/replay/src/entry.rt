@@ -19,31 +19,24 @@ fn holds(out: &[u8], answer: &[u8], page: &[u8]) -> bool
     &out[k..] == &page[k..]
 }
 
-// The output has the page's bytes before the call.
+// The output has the page's bytes before the call. The number is a byte of the entry, which may be no cause's.
+#[tactic(auto, using(crate::proofs::Agreeing::right))]
 fn repeated(rec: &[u8], number: u8, answer: &[u8], page: &[u8], out: &mut [u8]) -> bool
     requires { out.old ≡ page.now }
     ensures { result ≡ true → Right rec.now number answer.now page.now }
 {
-    if cause::number(&record::refine_record(rec, out)) != number as u32 {
+    if cause::number(&record::refine_record(rec, out)) != u32::from(number) {
         return false;
     }
     holds(out, answer, page)
 }
 
-// Bytes that no answer left behind.
+// The call gives the stored answer, and leaves the rest of a page as it was: 165 in each byte, as no answer leaves it.
 #[tactic(auto, unfolding(crate::specs::Stored::fresh))]
-pub fn page() -> [u8; 16354]
-    ensures room { 16354 ≡ length result }
-    ensures bytes { result ≡ fresh }
-{
-    [165; 16354]
-}
-
-// The call gives the stored answer.
 pub fn agrees(rec: &[u8], number: u8, answer: &[u8]) -> bool
     ensures { result ≡ true → Right rec.now number answer.now fresh }
 {
-    let fresh = page();
+    let fresh = [165; 16354];
     let mut out = fresh;
     repeated(rec, number, answer, &fresh, &mut out)
 }

@@ -1,4 +1,5 @@
--- Lists one after the other, as a loop that gives each its stretch of an answer writes them. Outside this module only the laws of `Laws` open it.
+-- Lists one after the other, as a loop that gives each its stretch of an answer writes them. Outside this module only
+-- the laws of `Laws` open it.
 pub mod Laws
 use Rattle.std.specs.Prelude.{ℕ, zero, suc, List, [], ◌++◌}
 

@@ -1,4 +1,5 @@
--- A list written out of order, each element at a place of its own, as an interleaver writes it. Outside this module only the laws of `Laws` open `fill`.
+-- A list written out of order, each element at a place of its own, as an interleaver writes it. Outside this module
+-- only the laws of `Laws` open `fill`.
 pub mod Laws
 use Rattle.std.specs.Prelude.{ℕ, zero, suc, ◌<◌, ◌≡◌, List, set}
 

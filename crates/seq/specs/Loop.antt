@@ -1,4 +1,5 @@
--- `for i in a..b { s = f(i, s) }` and `for i in (0..n).rev() { s = f(i, s) }` as functions of the state s. Outside this module only the laws of `Laws` open them.
+-- `for i in a..b { s = f(i, s) }` and `for i in (0..n).rev() { s = f(i, s) }` as functions of the state s. Outside this
+-- module only the laws of `Laws` open them.
 pub mod Laws
 use Rattle.std.specs.Prelude.{ℕ, zero, suc, ◌+◌, ◌-◌}
 

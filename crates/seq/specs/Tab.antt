@@ -1,4 +1,5 @@
--- A list by its elements' rule, as a loop that counts up writes it. Outside this module only the laws of `Laws` open it.
+-- A list by its elements' rule, as a loop that counts up writes it. Outside this module only the laws of `Laws` open
+-- it.
 pub mod Laws
 use Rattle.std.specs.Prelude.{ℕ, zero, suc, List, [], ◌∷◌, ◌++◌}
 

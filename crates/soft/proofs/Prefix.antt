@@ -29,12 +29,12 @@ at_most_32 b h = pow_mono {j = 5} (omega arith)
 last_bit : (b j : ℕ) → bit_of (b + 1) j b ≡ j % 2
 last_bit b j =
     let e : b + 1 - 1 - b ≡ 0 = omega arith in
-    rw e (ap (λ (n : ℕ). n % 2) (div-one j))
+    ap (λ (n : ℕ). j / 2 ^ n % 2) e ∙ ap (λ (n : ℕ). n % 2) (div-one j)
 
 earlier_bit : (b j i : ℕ) → i < b → bit_of (b + 1) j i ≡ bit_of b (j / 2) i
 earlier_bit b j i h =
     let e : b + 1 - 1 - i ≡ 1 + (b - 1 - i) = omega arith in
-    rw e (ap (λ (n : ℕ). n % 2) (sym (shr-shr j 1 (b - 1 - i))))
+    ap (λ (n : ℕ). j / 2 ^ n % 2) e ∙ ap (λ (n : ℕ). n % 2) (sym (shr-shr j 1 (b - 1 - i)))
 
 picked : (lam : Float) (bit : ℕ) → bit < 2 → cond (eqb bit 0) (cost_of lam 0) (cost_of lam 1) ≡ cost_of lam bit
 picked lam zero h = refl

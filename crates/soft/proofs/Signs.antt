@@ -1,4 +1,5 @@
--- Sums keep to a side of zero: of two floats that are not above zero the sum is not above zero, and of two that are not below it the sum is not below it. A NaN is on both sides. Assumes nothing.
+-- Sums keep to a side of zero: of two floats that are not above zero the sum is not above zero, and of two that are not
+-- below it the sum is not below it. A NaN is on both sides. Assumes nothing.
 use Prim.Native.Nat.{ℕ, zero, suc, ◌+◌, ◌-◌, ◌*◌, ◌^◌, ◌≤◌, ◌<◌}
 use mathlib.Core.Path.{◌≡◌, refl, sym, ap, subst}
 use mathlib.Core.Bool.{Bool, true, false, not, cond, beq}

@@ -5,6 +5,7 @@ use crate::bit::{Costs, costs_of};
 
 // The labels of a level, each one bit longer: by a 0, and by a 1. Written by the index: pairs from `chunks_exact_mut`
 // would be indexed too.
+#[tactic(auto, using(seq::specs::Tab::Laws::tab_none, crate::proofs::Prefix::length_page, crate::proofs::Prefix::two_more, crate::proofs::Prefix::written), unfolding(crate::specs::Tree::page))]
 fn split(up: &[f32], c: Costs) -> [f32; 64]
     requires { length up.now ≤ 32 }
     ensures { Children up.now (length up.now) c.zero c.one result }
@@ -19,6 +20,7 @@ fn split(up: &[f32], c: Costs) -> [f32; 64]
 
 // The logarithms of the probabilities of all labels of as many bits as there are likelihoods: labels that begin alike
 // share what they begin with.
+#[tactic(auto, using(crate::proofs::Prefix::at_most_32, crate::proofs::Prefix::level_none), unfolding(crate::specs::Tree::page))]
 pub fn log_probabilities(llr: &[f32]) -> [f32; 64]
     requires { length llr.now ≤ 6 }
     ensures { Level llr.now (length llr.now) result }

@@ -13,11 +13,12 @@ struct Moments {
 }
 
 impl Moments {
+    #[tactic(auto, unfolding(crate::specs::Soft::added))]
     fn with(self, x: Complex, p: f32) -> Moments
         ensures { result ≡ added self x p }
     {
         Moments {
-            mu: self.mu.add(x.scale(p)),
+            mu: self.mu + x.scale(p),
             e2: self.e2 + p * x.norm_sqr(),
         }
     }
@@ -30,6 +31,7 @@ pub struct Soft {
 }
 
 // The mean and the variance of a point whose label bits, the first one first, have the likelihoods llr.
+#[tactic(auto, using(seq::specs::Loop::Laws::for_none, seq::specs::Loop::Laws::for_step, seq::specs::Loop::Laws::for_end, crate::proofs::Prefix::log_read), unfolding(crate::specs::Soft::point_turn, crate::specs::Soft::moments_of, crate::specs::Soft::soft_of, crate::specs::Soft::soft_point))]
 pub fn soft_point(llr: &[f32], pts: &Points) -> Soft
     requires { pts.now.bps ≤ length llr.now }
     ensures { result ≡ soft_point llr.now pts.now.pts pts.now.bps }
@@ -49,6 +51,7 @@ pub fn soft_point(llr: &[f32], pts: &Points) -> Soft
 }
 
 // Whether a mean carries a tenth of the constellation's energy es.
+#[tactic(auto, unfolding(crate::specs::Soft::loud_of))]
 pub fn loud(x: Complex, es: f32) -> bool
     ensures { result ≡ loud_of x es }
 {

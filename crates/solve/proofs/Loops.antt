@@ -1,4 +1,4 @@
--- What the check uses of a loop: nothing done yet, one turn more, and a loop after a loop.
-use Rattle.seq.specs.Loop.Laws.{for_none, for_next, for_after, back_none, back_next}
+-- What the check uses of a loop: nothing done yet, one turn more, none left, and a loop after a loop.
+use Rattle.seq.specs.Loop.Laws.{for_none, for_next, for_after, back_none, back_next, back_end}
 
-pub ruleset loops = (for_none, for_next, for_after, back_none, back_next)
+pub ruleset loops = (for_none, for_next, for_after, back_none, back_next, back_end)

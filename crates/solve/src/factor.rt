@@ -3,6 +3,7 @@ ghost use Rattle.std.specs.Prelude.{◌≡◌, ◌+◌, ◌*◌, ◌<◌, ◌≤
 ghost use Rattle.seq.specs.Loop.{for};
 ghost use Rattle.solve.specs.Solve.{diagonal, below, column, factor};
 
+use crate::Matrix;
 use crate::matrix::{get, put};
 use crate::rows::{below, reduce};
 
@@ -22,40 +23,44 @@ fn below_fours(a: &mut [f64; 1600], first: usize, n: usize, j: usize, d: f64)
     requires { (j < first) × (first + 4 * n ≤ 40) }
     ensures { a.new ≡ for first (first + 4 * n) (below j d) a.old }
 {
+    // t counts the fours.
     for t in 0..n {
         below::<4>(a, first + 4 * t, j, d);
     }
 }
 
-// The rows that are left, one at a time.
-#[tactic(auto, using(crate::proofs::Loops::loops))]
-fn below_rest(a: &mut [f64; 1600], first: usize, j: usize, k: usize, d: f64)
-    requires { (j < first) × ((first ≤ k) × (k ≤ 40)) }
-    ensures { a.new ≡ for first k (below j d) a.old }
-{
-    for i in first..k {
-        below::<1>(a, i, j, d);
+impl Matrix {
+    // The rows that are left, one at a time.
+    #[tactic(auto, using(crate::proofs::Loops::loops))]
+    fn below_rest(&mut self, first: usize, j: usize, d: f64)
+        requires { (j < first) × (first ≤ self.old.k) }
+        ensures { (self.new.k ≡ self.old.k) × (self.new.a ≡ for first self.old.k (below j d) self.old.a) }
+    {
+        // i is the row's number.
+        for i in first..self.k {
+            below::<1>(&mut self.a, i, j, d);
+        }
     }
-}
 
-#[tactic(auto, using(crate::proofs::Loops::loops), unfolding(crate::specs::Solve::column))]
-fn reduce_column(a: &mut [f64; 1600], j: usize, k: usize)
-    requires { (j < k) × (k ≤ 40) }
-    ensures { a.new ≡ column k j a.old }
-{
-    let d = pivot(a, j);
-    put(a, j, j, d);
-    let n = (k - j - 1) / 4;
-    below_fours(a, j + 1, n, j, d);
-    below_rest(a, j + 1 + 4 * n, j, k, d);
-}
+    #[tactic(auto, using(crate::proofs::Loops::loops), unfolding(crate::specs::Solve::column))]
+    fn reduce_column(&mut self, j: usize)
+        requires { j < self.old.k }
+        ensures { (self.new.k ≡ self.old.k) × (self.new.a ≡ column self.old.k j self.old.a) }
+    {
+        let d = pivot(&self.a, j);
+        put(&mut self.a, j, j, d);
+        let n = (self.k - j - 1) / 4;
+        below_fours(&mut self.a, j + 1, n, j, d);
+        self.below_rest(j + 1 + 4 * n, j, d);
+    }
 
-#[tactic(auto, using(crate::proofs::Loops::loops), unfolding(crate::specs::Solve::factor))]
-pub fn factorise(a: &mut [f64; 1600], k: usize)
-    requires { k ≤ 40 }
-    ensures { a.new ≡ factor k a.old }
-{
-    for j in 0..k {
-        reduce_column(a, j, k);
+    #[tactic(auto, using(crate::proofs::Loops::loops), unfolding(crate::specs::Solve::factor))]
+    pub fn factorise(&mut self)
+        ensures { (self.new.k ≡ self.old.k) × (self.new.a ≡ factor self.old.k self.old.a) }
+    {
+        // j is the column's number.
+        for j in 0..self.k {
+            self.reduce_column(j);
+        }
     }
 }

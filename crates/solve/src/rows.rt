@@ -14,6 +14,7 @@ fn rows_of_column<const N: usize>(a: &[f64; 1600], i: usize, j: usize) -> [f64; 
     ensures { (r : ℕ) → r < N → at result r ≡ at2 a.now (i + r) j }
 {
     let mut s = [0.0f64; N];
+    // r is also the row's number, from i on.
     for r in 0..N {
         s[r] = get(a, i + r, j);
     }
@@ -25,6 +26,7 @@ fn subtract<const N: usize>(a: &[f64; 1600], i: usize, p: usize, m: f64, s: &mut
     requires { (i + N ≤ 40) × (p < 40) }
     ensures { (r : ℕ) → r < N → at s.new r ≡ at s.old r ⊖ at2 a.now (i + r) p ⊗ m }
 {
+    // r is also the row's number, from i on.
     for r in 0..N {
         s[r] -= get(a, i + r, p) * m;
     }
@@ -37,6 +39,7 @@ pub fn reduce<const N: usize>(a: &[f64; 1600], i: usize, j: usize) -> [f64; N]
     ensures { ReducedRows N result a.now i j }
 {
     let mut s = rows_of_column::<N>(a, i, j);
+    // p is the column's number, of both rows.
     for p in 0..j {
         subtract(a, i, p, get(a, j, p), &mut s);
     }
@@ -50,6 +53,7 @@ pub fn below<const N: usize>(a: &mut [f64; 1600], i: usize, j: usize, d: f64)
     ensures { a.new ≡ for i (i + N) (below j d) a.old }
 {
     let s = reduce::<N>(a, i, j);
+    // r is also the row's number, from i on.
     for r in 0..N {
         put(a, i + r, j, s[r] / d);
     }

@@ -17,7 +17,7 @@ use Rattle.dsp.specs.declared.Complex.{Complex}
 use Rattle.dsp.specs.Arithmetic.{complex, zeroᶜ, scaleᶜ, ◌+ᶜ◌, ◌*ᶜ◌}
 use Rattle.dsp.specs.Flat.{complex_at, flat}
 use Rattle.spread.specs.Spreader.{twiddle, twiddles_of, factor, next, unitary, Sum, start, turn, sum_of, output, transform, forward_of, inverse_of, Indexed}
-use Rattle.spread.proofs.Pairs.{pairs, length_pairs, pair_at}
+use Rattle.spread.proofs.Pairs.{pairs, length_pairs, pair_at, pairs_none, pairs_step, pairs_end}
 
 -- ---- the index
 pub next_wraps : (m k idx : ℕ) → m ≤ idx + k → idx + k - m ≡ next m k idx
@@ -131,3 +131,10 @@ length_twiddles m h = length-append (pairs (twiddle m) m) (replicate (218 - 2 * 
 pub twiddle_at : (m k : ℕ) → k < m → complex_at (twiddles_of m) k ≡ twiddle m k
 unfolding twiddles_of
 twiddle_at m k h = pair_at (twiddle m) m k (replicate (218 - 2 * m) zero32) h
+
+-- ---- what the check uses of the loops
+pub ruleset summing = (for_none, for_next, next_lt)
+
+pub ruleset writing = (pairs_none, pairs_step, pairs_end)
+
+pub ruleset twiddling = (pairs_none, pairs_step, pairs_end, zeros_left)

@@ -1,4 +1,5 @@
--- frame.rs, `Spreader`, for m from 1 on: the discrete Fourier transform of m complex numbers and its inverse, both divided by √m, each sum in the source's order.
+-- frame.rs, `Spreader`, for m from 1 on: the discrete Fourier transform of m complex numbers and its inverse, both
+-- divided by √m, each sum in the source's order.
 use Rattle.std.specs.Prelude.{◌≡◌, ℕ, ◌+◌, ◌-◌, ◌*◌, ◌%◌, ◌<◌, Bool, true, false, cond, List, ◌++◌, replicate, from_bits, nat_le}
 use Rattle.std.specs.Prelude.{Float}
 use Rattle.std.specs.Float.{binary32, binary64}
@@ -77,7 +78,8 @@ forward_of m tw v = transform m tw false v
 unfoldable pub inverse_of : ℕ → List Float → List Float → List Float
 inverse_of m tw v = transform m tw true v
 
--- ---- statement, proved in proofs/Spreading.antt: the index is k j mod m in turn j, so that output k sums a j times twiddle factor k j mod m
+-- ---- statement, proved in proofs/Spreading.antt: the index is k j mod m in turn j, so that output k sums a j times
+-- twiddle factor k j mod m
 pub record Indexed (m : ℕ) (tw : List Float) (inverse : Bool) (a : List Float) : Type 0 where
   pub index : (k j : ℕ) → k < m → (for 0 j (turn m tw inverse a k) start).idx ≡ k * j % m
   pub sum : (k : ℕ) → k < m → sum_of m tw inverse a k ≡ for 0 m (λ j acc. acc +ᶜ complex_at a j *ᶜ factor inverse (complex_at tw (k * j % m))) zeroᶜ

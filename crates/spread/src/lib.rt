@@ -1,4 +1,5 @@
-// frame.rs, `Spreader`: the discrete Fourier transform that spreads a symbol's points over its carriers, and its inverse.
+// frame.rs, `Spreader`: the discrete Fourier transform that spreads a symbol's points over its carriers, and its
+// inverse.
 #![tactic(auto)]
 
 mod spreader;

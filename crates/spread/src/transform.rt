@@ -6,30 +6,30 @@ ghost use Rattle.spread.specs.Spreader.{factor, next, unitary, sum_of, transform
 use crate::Spreader;
 use dsp::Complex;
 
-// The index of the next factor: k further on, around m.
-#[tactic(auto, unfolding(crate::specs::Spreader::next))]
-fn next(m: usize, k: usize, idx: usize) -> usize
-    requires { (idx < m) × ((k < m) × (m ≤ 109)) }
-    ensures { result ≡ next m k idx }
-{
-    let sum = idx + k;
-    if sum >= m {
-        return sum - m;
-    }
-    sum
-}
-
-// What keeps the power: 1 / √m.
-#[tactic(auto, unfolding(crate::specs::Spreader::unitary))]
-fn unitary(m: usize) -> f32
-    requires { m ≤ 109 }
-    ensures { result ≡ unitary m }
-{
-    1.0 / ieee::sqrt(m as f32)
-}
-
 impl Spreader {
-    // Twiddle factor idx, or its conjugate.
+    // The index of the next factor: k further on, around m.
+    #[tactic(auto, unfolding(crate::specs::Spreader::next))]
+    fn next(&self, k: usize, idx: usize) -> usize
+        requires { (idx < self.now.m) × (k < self.now.m) }
+        ensures { result ≡ next self.now.m k idx }
+    {
+        let sum = idx + k;
+        if sum >= self.m {
+            return sum - self.m;
+        }
+        sum
+    }
+
+    // What keeps the power: 1 / √m.
+    #[tactic(auto, unfolding(crate::specs::Spreader::unitary))]
+    fn unitary(&self) -> f32
+        ensures { result ≡ unitary self.now.m }
+    {
+        1.0 / ieee::sqrt(self.m as f32)
+    }
+
+    // Twiddle factor idx, or its conjugate. `inverse` is the source's own flag: it picks one of two factors here, and a
+    // closure in its place would need a clause that says what it answers.
     #[tactic(auto, unfolding(crate::specs::Spreader::factor))]
     fn factor(&self, idx: usize, inverse: bool) -> Complex
         requires { idx < 109 }
@@ -40,25 +40,29 @@ impl Spreader {
     }
 
     // Output k before it is scaled: the sum of a's numbers times their factors.
+    #[tactic(auto, using(crate::proofs::Spreading::summing), unfolding(crate::specs::Spreader::turn, crate::specs::Spreader::sum_of))]
     fn sum(&self, inverse: bool, a: &[f32; 218], k: usize) -> Complex
         requires { k < self.now.m }
         ensures { result ≡ sum_of self.now.m self.now.tw inverse a.now k }
     {
         let mut acc = Complex::ZERO;
         let mut idx = 0;
+        // j is a number's place in a, whose list is flat.
         for j in 0..self.m {
             acc += Complex::at(a, j) * self.factor(idx, inverse);
-            idx = next(self.m, k, idx);
+            idx = self.next(k, idx);
         }
         acc
     }
 
     // Unitary DFT, or IDFT, of m numbers of a into b.
+    #[tactic(auto, using(crate::proofs::Spreading::writing), unfolding(crate::specs::Spreader::transform))]
     fn transform(&self, inverse: bool, a: &[f32; 218], b: &mut [f32])
         requires { 2 * self.now.m ≤ length b.old }
         ensures { b.new ≡ transform self.now.m self.now.tw inverse a.now ++ drop (2 * self.now.m) b.old }
     {
-        let s = unitary(self.m);
+        let s = self.unitary();
+        // k is the output's number.
         for k in 0..self.m {
             let acc = self.sum(inverse, a, k);
             acc.scale(s).put(b, k);
@@ -66,6 +70,7 @@ impl Spreader {
     }
 
     // The same of the first m numbers of v, in their place: a is their copy.
+    #[tactic(auto, using(crate::proofs::Spreading::transform_copy))]
     fn in_place(&self, inverse: bool, v: &mut [f32])
         requires { 2 * self.now.m ≤ length v.old }
         ensures { v.new ≡ transform self.now.m self.now.tw inverse v.old ++ drop (2 * self.now.m) v.old }

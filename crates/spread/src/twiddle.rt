@@ -1,4 +1,4 @@
-// `Spreader::new`: the twiddle factors.
+// `Spreader::new`: the twiddle factors. m has its bound at each function here: a Spreader is not there before they are.
 ghost use Rattle.std.specs.Prelude.{◌≡◌, ◌<◌, ◌≤◌};
 ghost use Rattle.spread.specs.Spreader.{angle, twiddle, twiddles_of};
 
@@ -28,11 +28,13 @@ fn twiddle(m: usize, k: usize) -> Complex
 }
 
 // All m of them, and zeros past them.
+#[tactic(auto, using(crate::proofs::Spreading::twiddling), unfolding(crate::specs::Spreader::twiddles_of))]
 pub fn twiddles(m: usize) -> [f32; 218]
     requires { m ≤ 109 }
     ensures { result ≡ twiddles_of m }
 {
     let mut tw = [0.0f32; 218];
+    // k is the factor's number.
     for k in 0..m {
         twiddle(m, k).put(&mut tw, k);
     }

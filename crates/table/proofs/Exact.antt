@@ -11,7 +11,7 @@ use lib.Ieee.{Float}
 use Rattle.refine.specs.Refine.{Burst}
 use Rattle.table.specs.Refusals.{refusal_of}
 use Rattle.table.specs.Table.{rows, First, Exact}
-use Rattle.scan.proofs.Tests.{true_false}
+use Rattle.std.proofs.lemmas.Bool.{true≢false}
 
 -- the number of the first true test, where the first test has the number n, or 0
 abbrev numbered : ℕ → List Bool → ℕ
@@ -29,7 +29,7 @@ at_least n (false ∷ ts) = further (at_least (suc n) ts)
     further (inr h) = inr (omega arith)
 
 pub first_none : {k : ℕ} → First [] k → ⊥
-first_none f = true_false (sym f.here)
+first_none f = true≢false (sym f.here)
 
 pub next : {ts : List Bool} {k : ℕ} → First ts k → First (false ∷ ts) (suc k)
 next {ts} {k} f = record { here = f.here; above = before }
@@ -55,8 +55,8 @@ first_of n (false ∷ ts) (suc k) h e = next (first_of (suc n) ts k (omega arith
 of_first : (n : ℕ) (ts : List Bool) (k : ℕ) → First ts k → numbered n ts ≡ n + k
 of_first n [] k f = absurd (first_none f)
 of_first n (true ∷ ts) zero f = omega arith
-of_first n (true ∷ ts) (suc k) f = absurd (true_false (f.above 0 (omega arith)))
-of_first n (false ∷ ts) zero f = absurd (true_false (sym f.here))
+of_first n (true ∷ ts) (suc k) f = absurd (true≢false (f.above 0 (omega arith)))
+of_first n (false ∷ ts) zero f = absurd (true≢false (sym f.here))
 of_first n (false ∷ ts) (suc k) f = of_first (suc n) ts k (rest f) ∙ omega arith
 
 none_of : (n : ℕ) (ts : List Bool) → 1 ≤ n → numbered n ts ≡ 0 → (k : ℕ) → get_or ts k false ≡ false
@@ -67,7 +67,7 @@ none_of n (false ∷ ts) h e (suc k) = none_of (suc n) ts (omega arith) e k
 
 of_none : (n : ℕ) (ts : List Bool) → ((k : ℕ) → get_or ts k false ≡ false) → numbered n ts ≡ 0
 of_none n [] h = refl
-of_none n (true ∷ ts) h = absurd (true_false (h 0))
+of_none n (true ∷ ts) h = absurd (true≢false (h 0))
 of_none n (false ∷ ts) h = of_none (suc n) ts (λ k. h (suc k))
 
 by_number : (b : Burst) (prior : List Float) (room : Bool) → refusal_of b prior room ≡ numbered 1 (rows b prior room)

@@ -15,20 +15,20 @@ use Rattle.table.specs.Sizes.{Counted, nc_of, grid_cells, ncell_of, nbits_of, wo
 use Rattle.table.specs.Rows.{bad_codes, bad_symbols, bad_grid, bad_variances, room_for}
 use Rattle.table.specs.Table.{rows}
 use Rattle.table.specs.Refusals.{lent, refusal_in}
-use Rattle.scan.proofs.Tests.{neither, both}
+use Rattle.std.proofs.lemmas.Bool.{or_parts, and_parts}
 use Rattle.table.proofs.Exact.{exact}
 
 module _ (s : Settings) where
   pub counted : bad_symbols s ≡ false → Counted s
   unfolding bad_symbols
   counted e =
-      let t = neither (eqb s.nsym 0) (ltb 1023 s.nsym) e in
+      let t = or_parts (eqb s.nsym 0) (ltb 1023 s.nsym) e in
       let n : s.nsym ≡ 0 → ⊥ = eqb-false s.nsym 0 t.0 in
       record { some = omega arith; most = ltb-false 1023 s.nsym t.1 }
 
   gain_code_lem : bad_codes s ≡ false → s.gain_code ≤ 3
   unfolding bad_codes
-  gain_code_lem e = ltb-false 3 s.gain_code (neither (ltb 3 s.constellation) (ltb 3 s.gain_code) e).1
+  gain_code_lem e = ltb-false 3 s.gain_code (or_parts (ltb 3 s.constellation) (ltb 3 s.gain_code) e).1
 
   long_grid : (grid : List Float) → bad_grid s grid ≡ false → length grid ≡ 2 * grid_cells s
   unfolding bad_grid
@@ -37,7 +37,7 @@ module _ (s : Settings) where
   long_variances : (sigma cells : List Float) → bad_variances s sigma cells ≡ false → (length sigma ≡ nc_of s) × (length cells ≡ ncell_of s)
   unfolding bad_variances
   long_variances sigma cells e =
-      let t = neither (not (eqb (length sigma) (nc_of s))) (not (eqb (length cells) (ncell_of s))) e in
+      let t = or_parts (not (eqb (length sigma) (nc_of s))) (not (eqb (length cells) (ncell_of s))) e in
       (eqb-true (length sigma) (nc_of s) (not-false _ t.0), eqb-true (length cells) (ncell_of s) (not-false _ t.1))
 
   record Roomy (l : Lent) : Type 0 where
@@ -49,9 +49,9 @@ module _ (s : Settings) where
   roomy : (l : Lent) → not (room_for s l) ≡ false → Roomy l
   unfolding room_for
   roomy l e =
-      let a = both (leb (nbits_of s) l.answer) _ (not-false _ e) in
-      let c = both (leb (3 * ncell_of s) l.channel) _ a.1 in
-      let w = both (leb (work_length s) l.wf) (leb (work_length s) l.wu) c.1 in
+      let a = and_parts (leb (nbits_of s) l.answer) _ (not-false _ e) in
+      let c = and_parts (leb (3 * ncell_of s) l.channel) _ a.1 in
+      let w = and_parts (leb (work_length s) l.wf) (leb (work_length s) l.wu) c.1 in
       record {
         answer = leb-true _ _ a.0;
         channel = leb-true _ _ c.0;

@@ -1,5 +1,6 @@
--- The table of causes is exact: a call is given a row's number where that row turns it away and none above does, and 0 where no row does. Proved in proofs/Exact.antt,
--- and that bursts of every kind are accepted in proofs/Accepting.antt.
+-- The table of causes is exact: a call is given a row's number where that row turns it away and none above does, and
+-- 0 where no row does. Proved in proofs/Exact.antt, and that bursts of every kind are accepted in
+-- proofs/Accepting.antt.
 use Rattle.std.specs.Prelude.{ℕ, ◌+◌, ◌*◌, ◌<◌, ◌≤◌, ◌≡◌, Bool, true, false, not, List, [], ◌∷◌, ◌↔◌, get_or, replicate, Float}
 use Rattle.ieee.specs.Num.{zero32, one32}
 use Rattle.refine.specs.Refine.{Burst, burst}
@@ -32,7 +33,8 @@ pub record Exact : Type 0 where
   pub cause : (b : Burst) (prior : List Float) (room : Bool) (k : ℕ) → refusal_of b prior room ≡ k + 1 ↔ First (rows b prior room) k
   pub none : (b : Burst) (prior : List Float) (room : Bool) → refusal_of b prior room ≡ 0 ↔ ((k : ℕ) → get_or (rows b prior room) k false ≡ false)
 
--- ---- bursts that are accepted: a grid of zeros, variances, boost, pilot gain and p_h 1, no priors, lists just long enough
+-- ---- bursts that are accepted: a grid of zeros, variances, boost, pilot gain and p_h 1, no priors, lists just long
+-- enough
 
 abbrev pub plain : (layout constellation nsym : ℕ) → (sparse spread : Bool) → (gainCode k : ℕ) → Settings
 plain layout constellation nsym sparse spread gainCode k =

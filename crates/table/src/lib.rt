@@ -7,4 +7,4 @@ mod sizes;
 
 pub use refusal::verdict;
 pub use rows::{bad_codes, bad_layout, bad_symbols};
-pub use sizes::{Lent, nc};
+pub use sizes::{Lent, grid_cells, nbits, nc, ncell};

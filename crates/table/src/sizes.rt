@@ -13,8 +13,12 @@ pub struct Lent {
     pub wu: usize,
 }
 
+// `Counted` is a clause and no fact of `Settings`, here and in the rows: C hands over any number, which `bad_symbols`
+// tests.
+
 // Cells of the grid: ng × nc.
-pub(crate) fn grid_cells(s: Settings) -> usize
+#[tactic(auto, using(layout::proofs::Fits::layout_fits, crate::proofs::Bounded::small))]
+pub fn grid_cells(s: Settings) -> usize
     requires { Counted s }
     ensures { result ≡ grid_cells s }
 {
@@ -29,6 +33,7 @@ pub fn nc(s: Settings) -> usize
     l.nc
 }
 
+#[tactic(auto, using(layout::proofs::Fits::layout_fits))]
 pub fn ncell(s: Settings) -> usize
     requires { Counted s }
     ensures { result ≡ ncell_of s }
@@ -36,7 +41,7 @@ pub fn ncell(s: Settings) -> usize
     layout::layout(s.layout).ncell(s.sparse, s.nsym)
 }
 
-pub(crate) fn nbits(s: Settings) -> usize
+pub fn nbits(s: Settings) -> usize
     requires { Counted s }
     ensures { result ≡ nbits_of s }
 {

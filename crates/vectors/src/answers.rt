@@ -1,16 +1,18 @@
 // What the functions here answer, by the code that the list gives them. A number travels as its bits.
 // The codes stay numbers: the list has them so, and an enum of them would be a second table beside this one.
 
+// The low 32 bits, whatever stands above them: `try_from` would refuse what is larger.
 fn word(b: u64) -> u32 {
     (b % 0x1_0000_0000) as u32
 }
 
+// Short names for std's, at the list's u64: `From` for both types is std's to write.
 fn f32_of(b: u64) -> f32 {
     std::num::f32_from_bits_with_nan(word(b))
 }
 
 fn bits32(x: f32) -> u64 {
-    std::num::f32_to_bits_with_nan(x) as u64
+    u64::from(std::num::f32_to_bits_with_nan(x))
 }
 
 fn of_numbers(code: u64, a: u64, b: u64) -> u64 {
@@ -50,8 +52,8 @@ fn of_functions(code: u64, a: u64) -> u64 {
 
 fn of_bits(code: u64, a: u64, b: u64) -> u64 {
     match code {
-        0x0c => probes::probe_mix32(word(a)) as u64,
-        0x0d => probes::probe_scramble(word(a), word(b)) as u64,
+        0x0c => u64::from(probes::probe_mix32(word(a))),
+        0x0d => u64::from(probes::probe_scramble(word(a), word(b))),
         0x0e => probes::probe_interleave_step(a as usize) as u64,
         0x0f => probes::probe_slot(a as usize, b as usize) as u64,
         _ => bits32(bits::sign(word(a) as usize, f32_of(b))),

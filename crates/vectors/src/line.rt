@@ -14,7 +14,8 @@ fn digit(b: u8) -> u64
     }
 }
 
-// The number that hexadecimal digits make.
+// The number that hexadecimal digits make. By hand: `from_str_radix` also takes a sign and small letters, and refuses
+// the whole number for one other byte.
 fn number(digits: &[u8]) -> u64 {
     digits
         .iter()

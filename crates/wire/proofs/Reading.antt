@@ -41,3 +41,6 @@ module _ (rec : List ℕ) where
   pub counted_numbers : count_of rec ≡ 3 + (sizes_of (fields rec)).nc + (sizes_of (fields rec)).ncell + 2 * (sizes_of (fields rec)).grid + (fields rec).priors
   unfolding count_of settings settings_of sizes_of
   counted_numbers = refl
+
+-- for `grind`, of how long a record is
+pub ruleset lengths = (few, counted_numbers)

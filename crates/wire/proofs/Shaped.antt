@@ -14,7 +14,7 @@ use Rattle.points.specs.Constellation.{bps_of}
 use Rattle.refine.specs.declared.settings.Settings.{Settings}
 use Rattle.table.specs.Sizes.{Counted, nc_of, ncell_of, grid_cells, nbits_of, work_length}
 use Rattle.table.specs.Rows.{bad_layout, bad_codes, bad_symbols}
-use Rattle.scan.proofs.Tests.{neither}
+use Rattle.std.proofs.lemmas.Bool.{or_parts}
 use Rattle.table.proofs.Passing.{counted}
 use Rattle.wire.specs.Record.{head, padding, settings, settings_of, fields, count_of}
 use Rattle.wire.specs.Sizes.{plain}
@@ -55,8 +55,8 @@ module _ (rec : List ℕ) where
   pub whole_record : bad_record rec ≡ false → (6 ≤ length rec) × (length rec ≤ 8192) × (padding (head rec) ≡ 0)
   unfolding bad_record
   whole_record e =
-      let a = neither (ltb (length rec) 6) _ e in
-      let b = neither (ltb 8192 (length rec)) _ a.1 in
+      let a = or_parts (ltb (length rec) 6) _ e in
+      let b = or_parts (ltb 8192 (length rec)) _ a.1 in
       (ltb-false _ _ a.0, ltb-false _ _ b.0, eqb-true _ _ (not-false _ b.1))
 
   length_fits : bad_length rec ≡ false → length rec ≡ 6 + 4 * count_of rec
@@ -70,7 +70,7 @@ module _ (s : Settings) where
 
   low_codes : bad_codes s ≡ false → (s.constellation ≤ 3) × (s.gain_code ≤ 3)
   unfolding bad_codes
-  low_codes e = let t = neither (ltb 3 s.constellation) (ltb 3 s.gain_code) e in (ltb-false _ _ t.0, ltb-false _ _ t.1)
+  low_codes e = let t = or_parts (ltb 3 s.constellation) (ltb 3 s.gain_code) e in (ltb-false _ _ t.0, ltb-false _ _ t.1)
 
   -- ---- sizes
 

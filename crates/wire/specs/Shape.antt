@@ -1,4 +1,5 @@
--- The rows of document 01's table of causes that a record's shape decides, and how many bits and bytes one of an accepted shape stands for.
+-- The rows of document 01's table of causes that a record's shape decides, and how many bits and bytes one of an
+-- accepted shape stands for.
 use Rattle.std.specs.Prelude.{ℕ, ◌+◌, ◌*◌, Bool, not, cond, ◌||◌, List, length, ltb, eqb, Option, Some, None}
 use Rattle.refine.specs.Refine.{nbits, ncell}
 use Rattle.table.specs.Rows.{bad_layout, bad_codes, bad_symbols}

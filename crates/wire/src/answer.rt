@@ -10,7 +10,7 @@ pub fn put_numbers(src: &[f32], out: &mut [u8])
     requires { 4 * length src.now ≤ length out.old }
     ensures { out.new ≡ number_bytes (length src.now) src.now ++ drop (4 * length src.now) out.old }
 {
-    // By index: after `chunks_exact_mut` no proof knows what was written.
+    // By index: tried, `zip` with `out.chunks_exact_mut(4)`. After it no fact ties `out` to what was put there.
     for (i, x) in src.iter().enumerate() {
         put_word(
             std::num::f32_to_bits_with_nan(*x),

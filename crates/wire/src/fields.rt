@@ -5,6 +5,7 @@ ghost use Rattle.wire.specs.Sizes.{plain};
 
 use refine::Settings;
 
+// As the record has them. Layout and codes are numbers: the table of causes has rows for those that there are not.
 #[derive(Clone, Copy)]
 pub struct Fields {
     pub layout: u32,

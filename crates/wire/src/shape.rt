@@ -18,17 +18,17 @@ pub struct Sizes {
     pub nbits: usize,
 }
 
+#[tactic(auto, unfolding(crate::specs::Sizes::sizes_of))]
 pub fn sizes_of(f: Fields) -> Sizes
     requires { Counted (plain f) }
     ensures { result ≡ sizes_of f }
 {
-    let l = layout::layout(f.layout);
-    let ncell = l.ncell(f.sparse, f.nsym);
+    let s = f.plain();
     Sizes {
-        nc: l.nc,
-        ncell,
-        grid: l.ng(f.nsym) * l.nc,
-        nbits: ncell * points::bits_a_point(f.constellation),
+        nc: table::nc(s),
+        ncell: table::ncell(s),
+        grid: table::grid_cells(s),
+        nbits: table::nbits(s),
     }
 }
 
@@ -39,6 +39,7 @@ fn bad_record(record: &[u8]) -> bool
     record.len() < 6 || record.len() > 8192 || head(record) % 4 != 0
 }
 
+#[tactic(auto, using(crate::proofs::Reading::lengths), unfolding(crate::specs::Shape::bad_length))]
 fn bad_length(record: &[u8], f: Fields, z: Sizes) -> bool
     requires read { f ≡ fields «record».now }
     requires counted { Counted (plain f) }

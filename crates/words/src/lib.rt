@@ -1,16 +1,10 @@
 // Numbers in bytes, the most significant byte first.
 #![tactic(auto)]
 
-ghost use Rattle.std.specs.Prelude.{◌≡◌, ◌+◌, ◌<◌, ◌≤◌, ◌^◌, length, get_or};
+ghost use Rattle.std.specs.Prelude.{◌≡◌, ◌+◌, ◌≤◌, length};
 ghost use Rattle.words.specs.Bytes.{word_at, word};
 
-pub fn byte_at(s: &[u8], k: usize) -> u64
-    requires { k < length s.now }
-    ensures { (result ≡ get_or s.now k 0) × (result < 2 ^ 8) }
-{
-    u64::from(s[k])
-}
-
+// The four bytes from place k.
 #[tactic(auto, unfolding(crate::specs::Bytes::word_at))]
 pub fn word_at(s: &[u8], k: usize) -> u32
     requires { k + 4 ≤ length s.now }

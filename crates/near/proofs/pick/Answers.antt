@@ -1,13 +1,6 @@
 -- `pick` meets its contract: it walks from where the window's first symbol starts to where its last one ends.
-use Rattle.near.proofs.Walks.{span, picked}
+use Rattle.near.proofs.Walks.{picked}
 use Rattle.near.proofs.pick.Goals as goal
-
-pub pick_in-requires : goal.pick_in-requires
-pick_in-requires c =
-    let s = c.args in
-    let ps = s.ps.now in
-    let p = c.requires in
-    (span s.q s.w ps.c.now ps.g.now ps.f.now ps.start.now p.loaded p.asked _ _ _ _ _ c.low-g.ensures c.high.ensures c.start_of-lo.ensures c.start_of-mid.ensures c.start_of-hi.ensures, p.asked.some, p.asked.most, p.room)
 
 pub returns : goal.returns
 returns c =

@@ -1,4 +1,5 @@
--- What a proof uses of `cat`: nothing written yet, one stretch more, all written, lengths, one part taken out, one element found.
+-- What a proof uses of `cat`: nothing written yet, one stretch more, all written, lengths, one part taken out, one
+-- element found.
 use Prim.Native.Nat.{ℕ, zero, suc, ◌+◌, ◌-◌, ◌*◌, ◌≤◌, ◌<◌}
 use Rattle.std.specs.Prelude.{◌≡◌, ◌⊎◌, take}
 use Rattle.std.proofs.Math.Path.{refl, sym, ap}

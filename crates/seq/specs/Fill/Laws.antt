@@ -1,4 +1,5 @@
--- What a proof uses of `fill`: nothing written yet, one element more, its length and its elements; and that with each place taken once nothing of the old list is left.
+-- What a proof uses of `fill`: nothing written yet, one element more, its length and its elements; and that with each
+-- place taken once nothing of the old list is left.
 use Prim.Native.Nat.{ℕ, zero, suc, ◌+◌, ◌<◌, ◌≤◌}
 use Rattle.std.specs.Prelude.{◌≡◌, ◌⊎◌, List, ◌++◌, length, set, take, drop}
 use Rattle.std.proofs.Math.Path.{refl}

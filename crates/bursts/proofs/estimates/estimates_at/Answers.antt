@@ -13,7 +13,7 @@ pub loop-i-preserved : goal.loop-i-preserved
 loop-i-preserved c =
     let l = c.loop-i in
     let e = c.estimate_at-x in
-    rest_put (l.i * 3) l.out 3 (flat_estimate e.result) _ c.put3.ensures
+    rest_put (l.i * 3) l.out 3 (flat_estimate e.result) _ c.put.ensures
     ∙ (ap (λ (r : Estimate). take (l.i * 3) l.out ++ (flat_estimate r ++ drop 3 (drop (l.i * 3) l.out))) e.ensures
     ∙ cat_more 3 _ (λ k. refl) l.i _ l.out l.invariant)
 

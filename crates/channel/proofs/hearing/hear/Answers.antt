@@ -4,12 +4,12 @@ use Rattle.channel.proofs.Fitting.{room}
 use Rattle.channel.proofs.Loading.{heard}
 use Rattle.channel.proofs.hearing.hear.Goals as goal
 
-pub listen-requires-clause-room : goal.listen-requires-clause-room
-listen-requires-clause-room c =
+pub listen-requires : goal.listen-requires
+listen-requires c =
     let a = c.args in
-    rw c.plan_of-p.ensures (room (burst_of a.b.now) a.wf.now a.wu.now c.requires)
+    rw c.plan_of.ensures (room (burst_of a.b.now) a.wf.now a.wu.now c.requires)
 
 pub returns : goal.returns
 returns c =
     let a = c.args in
-    heard a.b.now.settings a.b.now.grid.now a.b.now.sigma.now a.b.now.cells.now a.prior.now _ _ _ _ _ c.plan_of-p.ensures c.unit_points-unit.ensures.table c.listen.ensures
+    heard a.b.now.settings a.b.now.grid.now a.b.now.sigma.now a.b.now.cells.now a.prior.now _ _ _ _ _ c.plan_of.ensures c.unit_points-unit.ensures.table c.listen.ensures

@@ -3,18 +3,6 @@ use Rattle.std.proofs.Common.{arith, sym, length-take-le}
 use Rattle.channel.proofs.Asking.{spans, near_from}
 use Rattle.channel.proofs.records.near_records.Goals as goal
 
-pub overflow_sub-n : goal.overflow_sub-n
-overflow_sub-n c =
-    let x = c.args in
-    let ps = x.pilots.now in
-    (spans x.s ps.c.now ps.g.now ps.f.now ps.start.now c.requires.0 x.g c.requires.3 _ _ _ _ c.low.ensures c.high.ensures c.start_of-lo.ensures c.start_of-hi.ensures c.requires.1 c.requires.2).0
-
-pub slice_bounds-ps-end : goal.slice_bounds-ps-end
-slice_bounds-ps-end c =
-    let x = c.args in
-    let ps = x.pilots.now in
-    (spans x.s ps.c.now ps.g.now ps.f.now ps.start.now c.requires.0 x.g c.requires.3 _ _ _ _ c.low.ensures c.high.ensures c.start_of-lo.ensures c.start_of-hi.ensures c.requires.1 c.requires.2).2
-
 pub slice_bounds-put_from-end : goal.slice_bounds-put_from-end
 slice_bounds-put_from-end c =
     let x = c.args in
@@ -28,12 +16,6 @@ put_from-requires c =
     let ps = x.pilots.now in
     let h = spans x.s ps.c.now ps.g.now ps.f.now ps.start.now c.requires.0 x.g c.requires.3 _ _ _ _ c.low.ensures c.high.ensures c.start_of-lo.ensures c.start_of-hi.ensures c.requires.1 c.requires.2 in
     rw (length-take-le _ _ h.2) (omega (arith, h))
-
-pub invariant_of-result : goal.invariant_of-result
-invariant_of-result c =
-    let x = c.args in
-    let ps = x.pilots.now in
-    record { few = (spans x.s ps.c.now ps.g.now ps.f.now ps.start.now c.requires.0 x.g c.requires.3 _ _ _ _ c.low.ensures c.high.ensures c.start_of-lo.ensures c.start_of-hi.ensures c.requires.1 c.requires.2).2 }
 
 pub returns : goal.returns
 returns c =

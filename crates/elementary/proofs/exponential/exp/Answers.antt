@@ -1,23 +1,16 @@
 -- `elementary::exp` meets its contract. Assumes nothing.
-use Rattle.std.proofs.Common.{◌≡◌, ℕ, ◌*◌, ◌/◌, ◌^◌, ◌≤◌, false, T, sym, ap, ◌∙◌, subst, arith}
-use lib.Ieee.{Float, binary32, fits, of_bits, to_bits, lt, round}
-use lib.Ieee.Bits.{of_bits-to_bits}
+use Rattle.std.proofs.Common.{◌≡◌, ℕ, ◌*◌, ◌/◌, ◌^◌, ◌≤◌, false, sym, ap, ◌∙◌, subst, arith}
+use lib.Ieee.{binary32, lt, round}
 use Rattle.elementary.specs.Constants.{minus87}
 use Rattle.elementary.specs.Domain.{Number}
 use Rattle.elementary.specs.FixedPoint.{M, L, whole_of}
 use Rattle.elementary.specs.Exp.{exp_fixed, exp_at}
-use Rattle.ieee.proofs.Floats.{number, nan_answer}
-use Rattle.elementary.proofs.WholePart.{Bounded, bounded, whole_le, field_le}
+use Rattle.ieee.proofs.Floats.{back, number, nan_answer}
+use Rattle.elementary.proofs.WholePart.{Bounded, bounded, whole_le, field_of}
 use Rattle.elementary.proofs.PowerScale.{power_no_nan, scaled}
 use Rattle.elementary.proofs.ExpCases.{exp_nan, exp_below, exp_from, exp_fixed_lem}
 use Rattle.elementary.proofs.exponential.exp.Goals as goal
-use Rattle.elementary.proofs.exponential.exp.Goals.{After-fixed_bits-q, Else-is_nan, Else-x, After-is_nan}
-
-held : (c : After-is_nan) → T (fits binary32 c.args.x)
-held c = subst T (sym c.well_formed.0.1) tt
-
-back : (c : After-is_nan) → of_bits binary32 (to_bits binary32 c.args.x) ≡ c.args.x
-back c = of_bits-to_bits binary32 c.args.x (held c)
+use Rattle.elementary.proofs.exponential.exp.Goals.{After-fixed_bits-q, Else-is_nan, Else-x}
 
 no_nan : (c : Else-is_nan) → Number c.args.x
 no_nan c = number c.args.x c.if-is_nan.ensures.value
@@ -29,7 +22,7 @@ sure : (c : Else-x) → Bounded c.args.x
 sure c = bounded c.args.x (no_nan c.before) c.requires (above_least c)
 
 size : (c : After-fixed_bits-q) → c.fixed_bits-q.result ≡ whole_of M c.args.x
-size c = c.fixed_bits-q.ensures ∙ ap (whole_of M) (back c.before.before.before)
+size c = c.fixed_bits-q.ensures ∙ ap (whole_of M) (back binary32 c.args.x c.well_formed.0.1)
 
 most : (c : After-fixed_bits-q) → c.fixed_bits-q.result ≤ 87 * M
 most c = subst (λ (q : ℕ). q ≤ 87 * M) (sym (size c)) (whole_le c.args.x (sure c.before))
@@ -44,9 +37,7 @@ pub returns-then-x : goal.returns-then-x
 returns-then-x c = sym (exp_below c.args.x (no_nan c.before) c.if-x.true)
 
 pub fixed_bits-q-requires : goal.fixed_bits-q-requires
-fixed_bits-q-requires c =
-    let b = to_bits binary32 c.args.x in
-    field_le b (subst (λ (x : Float). Number x) (sym (back c.before.before)) (no_nan c.before)) (subst (λ (x : Float). Bounded x) (sym (back c.before.before)) (sure c))
+fixed_bits-q-requires c = field_of c.args.x c.well_formed.0.1 (no_nan c.before) (sure c)
 
 pub overflow_sub-n : goal.overflow_sub-n
 overflow_sub-n c = omega (arith, turns c.fixed_bits-q.result (most c.before.before.before))

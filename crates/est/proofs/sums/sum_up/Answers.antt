@@ -12,7 +12,7 @@ loop-i-init c = (refl, for_none _ _ _)
 pub loop-i-preserved : goal.loop-i-preserved
 loop-i-preserved c =
     let l = c.loop-i in
-    (l.invariant.0, for_step _ _ _ _ _ _ (omega arith) l.invariant.1 (turned _ _ _ _ _ _ _ l.h l.mse _ _ _ _ _ (gain_of c.args.ps.now l.i c.loop-i-test.true) c.narrow.ensures c.scale.ensures c.add-h.ensures c.mse_row-mse.ensures))
+    (l.invariant.0, for_step _ _ _ _ _ _ (omega arith) l.invariant.1 (turned _ _ _ _ _ _ _ l.h l.mse _ _ _ _ _ (gain_of c.args.ps.now l.i c.loop-i-test.true) c.narrow.ensures c.scale.ensures c.add_assign.ensures.after c.mse_row-mse.ensures))
 
 pub returns : goal.returns
 unfolding sums_of

@@ -1,16 +1,18 @@
 -- `sum` meets its contract.
+use Rattle.std.proofs.Common.{arith, refl}
+use lib.Ieee.{nan}
+use lib.Seq.{get_or-take}
 use Rattle.seq.specs.Loop.Laws.{for_none, for_step, for_end}
 use Rattle.est.specs.Weights.{plus, sum_of}
-use Rattle.std.proofs.Common.{refl, arith}
 use Rattle.est.proofs.weights.sum.Goals as goal
 
-pub loop-i-init : goal.loop-i-init
-loop-i-init c = (omega arith, for_none _ _ _)
+pub loop-x-init : goal.loop-x-init
+loop-x-init c = for_none _ _ _
 
-pub loop-i-preserved : goal.loop-i-preserved
+pub loop-x-preserved : goal.loop-x-preserved
 unfolding plus
-loop-i-preserved c = (omega arith, for_step _ _ _ _ _ _ (omega arith) c.loop-i.invariant.1 refl)
+loop-x-preserved c = for_step _ _ _ _ _ _ (omega arith) c.loop-x.invariant (rw (get_or-take c.args.k c.args.w.now c.loop-x.x-index nan (omega arith)) refl)
 
 pub returns : goal.returns
 unfolding sum_of
-returns c = for_end _ _ _ _ _ _ (omega arith) (omega arith) c.loop-i.invariant.1
+returns c = for_end _ _ _ _ _ _ (omega arith) (omega arith) c.loop-x.invariant

@@ -5,4 +5,4 @@ use Rattle.expect.proofs.symbol.spread_variance.Goals as goal
 
 pub returns : goal.returns
 unfolding spread_variance
-returns c = rw (c.row_sum.ensures, row_sum_is c.args.dc c.args.points.now 0)
+returns c = rw (c.row_sum.ensures, row_sum_is c.args.sp.now.m c.args.points.now 0)

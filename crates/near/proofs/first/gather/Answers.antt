@@ -8,9 +8,6 @@ use Rattle.near.proofs.first.gather.Goals as goal
 pub loop-i-init : goal.loop-i-init
 loop-i-init c = (omega arith, omega arith, omega arith, refl, stored_none _ _ _ _ c.requires.3)
 
-pub visit-n-requires : goal.visit-n-requires
-visit-n-requires c = (omega arith, c.loop-i.invariant.4.long, c.loop-i.invariant.2)
-
 pub loop-i-preserved : goal.loop-i-preserved
 loop-i-preserved c =
     let l = c.loop-i in

@@ -7,4 +7,4 @@ use Rattle.phy.proofs.work.work_verdict.Goals as goal
 pub returns : goal.returns
 returns c =
     let a = c.args in
-    c.verdict.ensures ∙ same_table (burst_of a.b.now) a.prior.now a.wf a.wu
+    c.verdict.ensures ∙ same_table (burst_of a.b.now) a.prior.now _ _

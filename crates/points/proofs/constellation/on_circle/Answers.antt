@@ -1,5 +1,5 @@
 -- `on_circle` asks sin and cos for an angle that they take.
-use Rattle.points.specs.Constellation.{angle, circle_point}
+use Rattle.points.specs.Constellation.{angle}
 use Rattle.points.proofs.Angles.{angle_in_turns}
 use Rattle.points.proofs.constellation.on_circle.Goals as goal
 
@@ -10,8 +10,3 @@ cos-requires c = angle_in_turns c.args.m c.requires
 pub sin-requires : goal.sin-requires
 unfolding angle
 sin-requires c = angle_in_turns c.args.m c.requires
-
-pub returns : goal.returns
-unfolding circle_point angle
-returns c =
-    rw (c.new.ensures, c.narrow-2.ensures, c.sin.ensures, c.narrow.ensures, c.cos.ensures)

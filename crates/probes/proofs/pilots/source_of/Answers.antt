@@ -9,7 +9,7 @@ use Rattle.layout.specs.Sizes.{ng_of, pre_syms}
 use Rattle.layout.proofs.Fits.{layout_fits}
 use Rattle.layout.proofs.Bounds.{bounds}
 use Rattle.load.proofs.Sources.{source_fits}
-use Rattle.probes.specs.declared.pilots.Settings.{Settings}
+use Rattle.probes.specs.declared.pilots.LoadSettings.{LoadSettings}
 use Rattle.probes.specs.Loading.{source_for, Sourced}
 use Rattle.probes.proofs.pilots.source_of.Goals as goal
 
@@ -22,7 +22,7 @@ data_carriers-requires c = rw c.layout-l.ensures (layout_fits _).sizes
 pub ng-requires : goal.ng-requires
 ng-requires c = (rw c.layout-l.ensures (layout_fits _).sizes, search rules)
 
-sourced : (t : Settings) → t.nsym ≤ 1023 → Sourced t (source_for t)
+sourced : (t : LoadSettings) → t.nsym ≤ 1023 → Sourced t (source_for t)
 unfolding map_of
 sourced t h =
     let l = layout_of t.layout in

@@ -2,7 +2,7 @@
 use Rattle.std.proofs.Common.{ℕ, ◌+◌, ◌-◌, ◌*◌, ◌/◌, ◌≤◌, ◌≡◌, length, refl, sym, arith}
 use lib.Seq.{length-take-le}
 use Rattle.wire.proofs.Shaped.{shaped}
-use Rattle.record.proofs.Cutting.{may_judge, of_record, bits_counted, cells_counted}
+use Rattle.record.proofs.Cutting.{may_judge, of_record}
 use Rattle.record.proofs.Answering.{both}
 use Rattle.record.proofs.calls.judge_record.Goals as goal
 
@@ -29,12 +29,6 @@ head-requires c = (shaped _ c.requires.shaped).long
 
 pub judge-requires-clause-whole : goal.judge-requires-clause-whole
 judge-requires-clause-whole c = may_judge c.args.«record».now _ _ _ _ c.head.ensures c.fields_of.ensures (shaped _ c.requires.shaped) (length-take-le _ _ (omega (arith, (shaped _ c.requires.shaped).most))) c.numbers.ensures
-
-pub judge-requires-clause-out_room : goal.judge-requires-clause-out_room
-judge-requires-clause-out_room c = omega (arith, c.requires.out_room, bits_counted _ _ _ c.head.ensures c.fields_of.ensures)
-
-pub judge-requires-clause-channel_room : goal.judge-requires-clause-channel_room
-judge-requires-clause-channel_room c = omega (arith, c.requires.channel_room, cells_counted _ _ _ c.head.ensures c.fields_of.ensures)
 
 pub returns : goal.returns
 returns c =

@@ -6,14 +6,8 @@ use Rattle.record.proofs.Cutting.{few, bits_in, cells_in}
 use Rattle.record.proofs.Judged.{in_bytes, judges}
 use Rattle.record.proofs.judging.judge.Goals as goal
 
-pub slice_bounds-answer-end : goal.slice_bounds-answer-end
-slice_bounds-answer-end c = omega (arith, (few _ _ c.sizes_of-z.ensures c.requires.whole.short).bits, c.refine_numbers.array_long)
-
 pub slice_bounds-answer-end-2 : goal.slice_bounds-answer-end-2
 slice_bounds-answer-end-2 c = sym (length-take-le _ c.refine_numbers.new.answer (omega (arith, (few _ _ c.sizes_of-z.ensures c.requires.whole.short).bits, c.refine_numbers.array_long)))
-
-pub slice_bounds-estimates-end : goal.slice_bounds-estimates-end
-slice_bounds-estimates-end c = omega (arith, (few _ _ c.sizes_of-z.ensures c.requires.whole.short).cells, c.refine_numbers.array_long2)
 
 pub slice_bounds-estimates-end-2 : goal.slice_bounds-estimates-end-2
 slice_bounds-estimates-end-2 c = sym (length-take-le _ c.refine_numbers.new.channel (omega (arith, (few _ _ c.sizes_of-z.ensures c.requires.whole.short).cells, c.refine_numbers.array_long2)))

@@ -1,17 +1,7 @@
 -- `plan_of` meets its contract.
 use mathlib.Core.Path.{refl}
-use Rattle.layout.proofs.Fits.{layout_fits}
 use Rattle.points.proofs.Laws.{points_laws}
 use Rattle.refine.proofs.settings.plan_of.Goals as goal
-
-pub ng-ng-requires : goal.ng-ng-requires
-ng-ng-requires c = (rw c.layout-l.ensures (layout_fits _).sizes, c.requires.1)
-
-pub data_carriers-dc-requires : goal.data_carriers-dc-requires
-data_carriers-dc-requires c = rw c.layout-l.ensures (layout_fits _).sizes
-
-pub new-requires : goal.new-requires
-new-requires c = rw c.layout-l.ensures (layout_fits _)
 
 pub returns : goal.returns
 returns c =

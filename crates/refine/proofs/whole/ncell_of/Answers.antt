@@ -1,12 +1,8 @@
 -- `ncell_of` meets its contract.
 use mathlib.Core.Path.{ap, ◌∙◌}
 use Rattle.layout.specs.Sizes.{ncell_of}
-use Rattle.layout.proofs.Fits.{layout_fits}
 use Rattle.refine.proofs.Ready.{cells_most}
 use Rattle.refine.proofs.whole.ncell_of.Goals as goal
-
-pub ncell-requires : goal.ncell-requires
-ncell-requires c = (rw c.layout-l.ensures (layout_fits _).sizes, c.requires.1)
 
 pub returns : goal.returns
 returns c =

@@ -1,17 +1,10 @@
 -- `refine` meets its contract.
 use Prim.Native.Nat.{◌*◌}
-use mathlib.Core.Path.{sym, ap}
-use lib.Seq.{length-take-le}
+use mathlib.Core.Path.{ap}
 use Rattle.refine.specs.Received.{burst_of}
 use Rattle.refine.proofs.Ready.{exact_fit}
 use Rattle.refine.proofs.Joined.{refined}
 use Rattle.refine.proofs.whole.refine.Goals as goal
-
-pub slice_bounds-refine_exact-end-2 : goal.slice_bounds-refine_exact-end-2
-slice_bounds-refine_exact-end-2 c = sym (length-take-le _ c.args.answer.now (rw c.nbits_of-n.ensures c.requires.in_answer))
-
-pub slice_bounds-refine_exact-end-4 : goal.slice_bounds-refine_exact-end-4
-slice_bounds-refine_exact-end-4 c = sym (length-take-le _ c.args.channel.now (rw c.ncell_of-c.ensures.0 c.requires.in_channel))
 
 pub refine_exact-requires : goal.refine_exact-requires
 refine_exact-requires c =

@@ -1,28 +1,23 @@
 -- `refine_exact` meets its contract.
-use mathlib.Core.Path.{sym, ◌∙◌}
+use mathlib.Core.Path.{◌∙◌}
+use native.Mathlib.Omega.{arith}
+use lib.Seq.{length-take-le}
 use Rattle.refine.specs.Received.{burst_of}
-use Rattle.refine.proofs.Ready.{in_room, bits_fit}
+use Rattle.refine.proofs.Ready.{room_left}
 use Rattle.refine.proofs.Joined.{refined_exactly}
 use Rattle.refine.proofs.whole.refine_exact.Goals as goal
 
-pub slice_bounds-to_bit_order-end-2 : goal.slice_bounds-to_bit_order-end-2
-slice_bounds-to_bit_order-end-2 c =
-    let j = c.judge_again-m in
-    sym (in_room (burst_of c.args.b.now) c.args.answer.now c.args.channel.now c.args.wf.now c.args.wu.now c.requires _ _ j.auto.answer j.auto.wf)
-
 pub to_bit_order-requires : goal.to_bit_order-requires
 to_bit_order-requires c =
-    let j = c.judge_again-m in (
-      in_room (burst_of c.args.b.now) c.args.answer.now c.args.channel.now c.args.wf.now c.args.wu.now c.requires _ _ j.auto.answer j.auto.wf,
-      (bits_fit (burst_of c.args.b.now) c.args.answer.now c.args.channel.now c.args.wf.now c.args.wu.now c.requires _ j.auto.answer).0,
-      (bits_fit (burst_of c.args.b.now) c.args.answer.now c.args.channel.now c.args.wf.now c.args.wu.now c.requires _ j.auto.answer).1,
-    )
+    let a = c.args in
+    let j = c.judge_again-m in
+    let r = room_left (burst_of a.b.now) a.answer.now a.channel.now a.wf.now a.wu.now c.requires in
+    (length-take-le _ _ (omega (arith, r, j.auto.answer, j.auto.wf)), omega (arith, r, j.auto.answer), omega (arith, r, j.auto.answer))
 
 pub spoilt-requires : goal.spoilt-requires
 spoilt-requires c =
-    let j = c.judge_again-m in
-    let t = c.to_bit_order in
-    (bits_fit (burst_of c.args.b.now) c.args.answer.now c.args.channel.now c.args.wf.now c.args.wu.now c.requires _ (t.auto.answer ∙ j.auto.answer)).1
+    let a = c.args in
+    omega (arith, room_left (burst_of a.b.now) a.answer.now a.channel.now a.wf.now a.wu.now c.requires, c.to_bit_order.auto.answer, c.judge_again-m.auto.answer)
 
 pub returns : goal.returns
 returns c =

@@ -1,13 +1,8 @@
 -- `log_probabilities` goes from level to level.
 use native.Mathlib.Omega.{arith}
 use Rattle.soft.specs.Soft.{prior_at}
-use Rattle.soft.specs.Tree.{page}
-use Rattle.soft.proofs.Prefix.{at_most_32, level_none, level_more}
+use Rattle.soft.proofs.Prefix.{at_most_32, level_more}
 use Rattle.soft.proofs.labels.log_probabilities.Goals as goal
-
-pub loop-b-init : goal.loop-b-init
-unfolding page
-loop-b-init c = level_none _
 
 pub loop-b-preserved : goal.loop-b-preserved
 unfolding prior_at

@@ -17,10 +17,3 @@ returns-then-same c =
     let w = c.args.self.now in
     let own = picked_is w.d.at w.d.bps c.args.b c.args.bit w.most w.e.at w.shared (sym c.top-m.ensures ∙ c.same.ensures c.if-same.true) in
     rw (c.top-m.ensures, c.ln.ensures, c.sum.ensures, w.alike, own)
-
-pub ln-requires-2 : goal.ln-requires-2
-ln-requires-2 c = rw c.sum_against.ensures (ln_asked _ _ _ _ c.requires.0 c.args.self.now.d.few c.requires.1)
-
-pub returns : goal.returns
-unfolding side_of
-returns c = rw (c.top-m.ensures, c.ln-2.ensures, c.sum_against.ensures)

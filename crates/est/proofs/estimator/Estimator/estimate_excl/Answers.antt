@@ -14,11 +14,6 @@ returns-then-n-eq0 c =
     let k = c.pick-n in
     none_near s.self.now s.c s.g _ c.requires.0 c.requires.1 _ k.ensures.same (counted s.self.now k.result k.new.idx k.ensures.most k.auto.idx ∙ c.if-n-eq0.true)
 
-pub slice_bounds-estimate_of-end : goal.slice_bounds-estimate_of-end
-slice_bounds-estimate_of-end c =
-    let k = c.pick-n in
-    sym (counted c.args.self.now k.result k.new.idx k.ensures.most k.auto.idx)
-
 pub estimate_of-requires : goal.estimate_of-requires
 estimate_of-requires c =
     let s = c.args in

@@ -7,20 +7,13 @@ use lib.ListN.{length, take}
 use Rattle.std.proofs.Common.{length-take-le}
 use Rattle.near.specs.Nearest.{insert}
 use Rattle.near.specs.Walk.{same, Chain}
-use Rattle.near.proofs.Places.{chain_insert, chain_shorter, with_room, no_room, too_far}
+use Rattle.near.proofs.Places.{chain_insert, chain_shorter, no_room, too_far}
 use Rattle.near.proofs.ordered.Nearest.insert.Goals as goal
 
 pub invariant_of-self : goal.invariant_of-self
 invariant_of-self c =
     let i = c.self.inside in
     (omega arith, subst (Chain same 0) (sym c.put_in.ensures) (chain_insert same c.args.x 0 (take i.n i.a) (omega arith) c.self.invariant.1))
-
-pub returns-then-self-k : goal.returns-then-self-k
-returns-then-self-k c =
-    let s = c.args in
-    let i = c.self.inside in
-    with_room i.a c.put_in.new.a i.n s.k s.x (omega arith) (omega arith) c.put_in.ensures
-    ∙ ap (λ (l : List ℕ). take s.k (insert same s.x l)) c.self.view_is
 
 -- there are k of them
 full : (a l : List ℕ) (n k : ℕ) → n ≤ length a → take n a ≡ l → length l ≤ k → k ≤ n → n ≡ k

@@ -1,12 +1,9 @@
 -- `transform` has written those below k, and nothing past them.
-use Rattle.std.proofs.Common.{refl, ◌∙◌, arith}
-use Rattle.spread.specs.Spreader.{output, transform}
-use Rattle.spread.proofs.Pairs.{pairs_none, pairs_step, pairs_end}
+use Rattle.std.proofs.Common.{◌∙◌, arith}
+use Rattle.spread.specs.Spreader.{output}
+use Rattle.spread.proofs.Pairs.{pairs_step}
 use Rattle.spread.proofs.Spreading.{output_of}
 use Rattle.spread.proofs.spreader.Spreader.transform.Goals as goal
-
-pub loop-k-init : goal.loop-k-init
-loop-k-init c = let s = c.args in (refl, pairs_none (output s.self.now.m s.self.now.tw s.inverse s.a.now) s.b.now)
 
 pub loop-k-preserved : goal.loop-k-preserved
 loop-k-preserved c =
@@ -17,10 +14,3 @@ loop-k-preserved c =
       c.put.auto.xs ∙ l.invariant.0,
       rw c.put.ensures (pairs_step z l.k s.b.now l.b _ (omega arith) l.invariant.1 is),
     )
-
-pub returns : goal.returns
-unfolding transform
-returns c =
-    let l = c.loop-k in
-    let s = c.args in
-    pairs_end (output s.self.now.m s.self.now.tw s.inverse s.a.now) l.k s.self.now.m s.b.now l.b l.auto.k-end c.loop-k-test.false l.invariant.1

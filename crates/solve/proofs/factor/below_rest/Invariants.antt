@@ -1,7 +1,0 @@
-use mathlib.Core.Path.{◌≡◌}
-use Rattle.seq.specs.Loop.{for}
-use Rattle.solve.specs.Solve.{below}
-use Rattle.solve.proofs.factor.below_rest.Given as goal
-
-abbrev pub invariant-loop-i : goal.invariant-loop-i
-invariant-loop-i l = l.a ≡ for l.first l.i (below l.j l.d) l.initial.a
