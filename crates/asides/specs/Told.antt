@@ -53,7 +53,7 @@ abbrev pub refused_report : ℕ → Report
 refused_report n = record { number = n; fd = 0; tm = 0; spoilt = 0; scale = zero32 }
 
 abbrev pub report_of : Result Refined Cause → Report
-report_of (Ok m) = record { number = 0; fd = m.fd; tm = m.tm; spoilt = m.spoilt; scale = m.scale }
+report_of (Ok m) = record { number = 0; fd = m.model.fd; tm = m.model.tm; spoilt = m.spoilt; scale = m.model.scale }
 report_of (Err cause) = refused_report (cause_number cause)
 
 -- ---- the probes

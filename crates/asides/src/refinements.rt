@@ -32,15 +32,15 @@ fn report_of(answer: Result<Refined, Cause>) -> Report
         },
         Ok(m) => Report {
             number: 0,
-            fd: m.fd,
-            tm: m.tm,
+            fd: m.model.fd,
+            tm: m.model.tm,
             spoilt: m.spoilt,
-            scale: m.scale,
+            scale: m.model.scale,
         },
     }
 }
 
-// A C function of its own beside `probe_single_estimate`, which also only hands on what it is lent.
+// Its body is `probe_single_estimate`'s but for names: both are names that C calls, each with its own parameters.
 #[unsafe(no_mangle)]
 pub extern "C" fn probe_refine(
     s: Settings,

@@ -12,7 +12,8 @@ pub struct Told {
     pub values: [f32; 3],
 }
 
-// What is told of an accepted call's answer.
+// What is told of an accepted call's answer. No `From` into an array: both types would be other crates', for
+// which no impl may stand here.
 pub(crate) trait Values {
     ghost numbers: { Self → List Float };
 

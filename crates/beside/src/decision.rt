@@ -11,8 +11,8 @@ fn is_finite(x: Complex) -> bool
     ieee::is_finite(x.re) && ieee::is_finite(x.im)
 }
 
-// The unit point nearest to y / h; refused are a code above 3 and a number that is not finite. So the code is a number,
-// and no enum: document 01's row 2 is for one that there is not.
+// The unit point nearest to y / h; refused are a code above 3 and a number that is not finite. The code is a number and
+// no enum: a call may name one that does not exist, and part 10 of document 01 has it refused as `Cause::Codes`.
 #[tactic(auto, unfolding(crate::specs::Decisions::refusal_of, crate::specs::Decisions::point_for))]
 pub fn decide(code: u32, y: Complex, h: Complex) -> Result<Complex, Cause>
     ensures { Decides code y h result }

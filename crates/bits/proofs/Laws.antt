@@ -1,26 +1,18 @@
 -- What callers use of slots: each slot is one bit's, the slot of the next bit, and the elements of the lists in slot order and in bit order.
-use Rattle.std.proofs.Common.{◌≡◌, ℕ, ◌+◌, ◌*◌, ◌%◌, ◌<◌, ◌≤◌, List, ◌++◌, length, get_or, take, drop, replicate, sym, ap, ◌∙◌, mod-lt, mod-eq_of_lt, mul_comm, mul-one, mul-add, arith, length-drop, length-take, get_or-drop, get_or-take, ext_get_or}
+use Rattle.std.proofs.Common.{◌≡◌, ℕ, ◌+◌, ◌*◌, ◌%◌, ◌<◌, ◌≤◌, List, ◌++◌, length, get_or, take, drop, replicate, sym, ap, ◌∙◌, mod-lt, mod-eq_of_lt, mul_comm, mul-one, mul-add, arith, append-nil, length-drop, length-take, get_or-drop, get_or-take, ext_get_or}
 use native.Mathlib.Nat.{mod-add-mod}
 use lib.ListN.{length-replicate}
+use Rattle.std.proofs.lemmas.List.{drop_all}
 use lib.Ieee.{Float}
 use Rattle.seq.specs.Fill.{fill, EachOnce}
 use Rattle.seq.specs.Fill.Laws.{length_fill, fill_at, filled, fill_none, fill_step, fill_end}
-use Rattle.seq.specs.Tab.Laws.{length_tab, get_d_tab, tab_none, tab_step, tab_end}
+use Rattle.seq.specs.Tab.Laws.{length_tab, get_d_tab, tab_none, tab_step, tab_whole}
 use Rattle.bits.specs.Mix.{signed}
 use Rattle.bits.specs.Step.{step_of}
 use Rattle.bits.specs.Slots.{longest, slot_of, nought, prior_bit, slot_priors, bit_of, bit_order, SlotsOnce}
 use Rattle.bits.proofs.Divisors.{gcd_coprime}
 use Rattle.bits.proofs.Inverse.{inverse, undone}
 use Rattle.bits.proofs.Search.{step_good}
-
-pub slot_lt : (n i : ℕ) → 0 < n → slot_of n i < n
-unfolding slot_of
-slot_lt n i h = mod-lt (step_of n * i) h
-
--- from slot to slot with no product
-pub slot_next : (n i : ℕ) → slot_of n (i + 1) ≡ (slot_of n i + step_of n) % n
-unfolding slot_of
-slot_next n i = rw (mod-add-mod (step_of n * i) n (step_of n), mul-add (step_of n) i 1, mul-one)
 
 pub slots_once : SlotsOnce
 unfolding SlotsOnce slot_of
@@ -55,10 +47,12 @@ module _ (n : ℕ) (h : 0 < n) (hn : n ≤ longest) where
   unfolding slot_priors
   slot_prior prior i d b = fill_at n (slot_of n) (prior_bit prior) each d (replicate n nought) n i (omega (arith, length-replicate n nought)) (omega arith) b
 
-  -- a buffer with each prior put at its slot: of what it held only what is past the slots is left
-  pub slots_filled : (prior out : List Float) → n ≤ length out → fill (slot_of n) (prior_bit prior) n out ≡ slot_priors n prior ++ drop n out
+  -- a list of n with each prior put at its slot: of what it held nothing is left
+  pub slots_filled : (prior out : List Float) → length out ≡ n → fill (slot_of n) (prior_bit prior) n out ≡ slot_priors n prior
   unfolding slot_priors
-  slots_filled prior out b = filled n (slot_of n) (prior_bit prior) each nought out (replicate n nought) b (length-replicate n nought)
+  slots_filled prior out b =
+      filled n (slot_of n) (prior_bit prior) each nought out (replicate n nought) (omega arith) (length-replicate n nought)
+      ∙ (ap (λ (t : List Float). slot_priors n prior ++ t) (drop_all n out (omega arith)) ∙ append-nil (slot_priors n prior))
 
   module _ (p q : List Float) where
     -- a slot holds the prior of its own bit and of no other
@@ -81,4 +75,4 @@ module _ (n : ℕ) (h : 0 < n) (hn : n ≤ longest) where
 -- ---- what the check uses of the two loops
 pub ruleset filling = (fill_none, fill_step, fill_end, slots_filled)
 
-pub ruleset tabbing = (tab_none, tab_step, tab_end)
+pub ruleset tabbing = (tab_none, tab_step, tab_whole)

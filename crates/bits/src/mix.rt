@@ -7,7 +7,8 @@ pub const SEED_DATA: u32 = 0x4865_726d;
 
 pub const SEED_HDR: u32 = 0x6573_4844;
 
-// Rust's `u32::wrapping_mul`.
+// Rust's `u32::wrapping_mul`. Document 01 wants a helper of its own for it: each product that wraps goes through this
+// one, whose contract says so as the definitions write it.
 pub fn wrapping_mul(a: u32, b: u32) -> u32
     ensures { result ≡ a * b % 2 ^ 32 }
 {

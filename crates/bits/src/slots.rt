@@ -1,6 +1,6 @@
 // A burst's n bits and the n slots that they sit at: the first and the last loop of refine.rs `refine`.
-// n, with its bound, is a parameter of each function: a burst's path makes one call of each, and a struct of n and its
-// step would be made for that call alone. The lists that are lent may be longer than n.
+// That n is at most `longest` is a clause of each function: n is the length of a list that is lent, and a struct of the
+// list would be made for the one call that a burst's path makes of each.
 ghost use Rattle.std.specs.Prelude.{◌≡◌, ◌<◌, ◌≤◌, ◌++◌, length, drop, slice_index_or};
 ghost use Rattle.bits.specs.Step.{step_of};
 ghost use Rattle.bits.specs.Slots.{longest, slot_of, nought, slot_priors, bit_order};
@@ -32,12 +32,14 @@ pub fn value_at(s: &[f32], i: usize) -> f32
     s.get(i).copied().unwrap_or(0.0)
 }
 
-// The n priors, scrambled, each at its slot; what `out` has past them stays.
+// The priors, scrambled, each at its slot: `out` has a place for each of the burst's bits, and there may be fewer
+// priors.
 #[tactic(auto, using(crate::proofs::Laws::filling), unfolding(crate::specs::Slots::prior_bit))]
-pub fn to_slots(prior: &[f32], n: usize, out: &mut [f32])
-    requires { (0 < n) × (n ≤ longest) × (n ≤ length out.old) }
-    ensures { out.new ≡ slot_priors n prior.now ++ drop n out.old }
+pub fn to_slots(prior: &[f32], out: &mut [f32])
+    requires { (0 < length out.old) × (length out.old ≤ longest) }
+    ensures { out.new ≡ slot_priors (length out.old) prior.now }
 {
+    let n = out.len();
     let a = interleave_step(n);
     // i is the bit's number: its slot and its sign come of it.
     for i in 0..n {
@@ -46,18 +48,18 @@ pub fn to_slots(prior: &[f32], n: usize, out: &mut [f32])
     }
 }
 
-// The n numbers in bit order, unscrambled; what `out` has past them stays. Its walk is not `to_slots`'s: that writes at
-// the slot and reads at the bit, this the other way about, and one function for both would ask for each place by a
-// closure of its own.
+// The numbers in bit order, unscrambled: a slot for each of `out`. Its walk is not `to_slots`'s: that writes at the
+// slot and reads at the bit, this the other way about, and one function for both would ask for each place by a closure
+// of its own.
 #[tactic(auto, using(crate::proofs::Laws::tabbing), unfolding(crate::specs::Slots::bit_of, crate::specs::Slots::bit_order))]
-pub fn from_slots(slots: &[f32], n: usize, out: &mut [f32])
-    requires { (0 < n) × (n ≤ longest) × (n ≤ length slots.now) × (n ≤ length out.old) }
-    ensures { out.new ≡ bit_order n slots.now ++ drop n out.old }
+pub fn from_slots(slots: &[f32], out: &mut [f32])
+    requires { (0 < length out.old) × (length out.old ≤ longest) × (length out.old ≤ length slots.now) }
+    ensures { out.new ≡ bit_order (length out.old) slots.now }
 {
+    let n = out.len();
     let a = interleave_step(n);
-    // i is the bit's number: its slot and its sign come of it.
-    for i in 0..n {
+    for (i, v) in out.iter_mut().enumerate() {
         let s = slot_by(a, n, i);
-        out[i] = sign(i, slots[s]);
+        *v = sign(i, slots[s]);
     }
 }

@@ -7,9 +7,10 @@ use native.Mathlib.Decide.{ℕ_discrete}
 use native.Mathlib.Omega.{arith}
 use borrow.Author.Tests.{eq-eqb, ne_eqb, le-leb}
 use lib.Dec.{leb}
+use Rattle.std.specs.Prelude.{IsSome}
 use Rattle.refine.specs.Refine.{nbits}
 use Rattle.wire.specs.Record.{burst_of}
-use Rattle.wire.specs.Shape.{shape_refusal, bits_of, answer_length}
+use Rattle.wire.specs.Shape.{shape_refusal, bits_in, bits_of, answer_length}
 use Rattle.record.specs.Refusals.{refusal_in}
 use Rattle.wire.proofs.Shaped.{shaped}
 
@@ -21,6 +22,11 @@ module _ (rec : List ℕ) where
       go : Dec (shape_refusal rec ≡ 0) → refusal_in rec room ≡ 0 → shape_refusal rec ≡ 0
       go (yes u) e = u
       go (no u) e = rw (ne_eqb (shape_refusal rec) 0 u) at e
+
+  -- a record that has an answer has its bits
+  pub some_bits : (room : Bool) → refusal_in rec room ≡ 0 → IsSome (bits_in rec)
+  unfolding bits_in
+  some_bits room e = rw (eq-eqb (shape_refusal rec) 0 (shape_fits room e)) refl
 
   few : shape_refusal rec ≡ 0 → nbits (burst_of rec) ≤ 4086
   unfolding burst_of

@@ -28,15 +28,15 @@ module _ (r : Refined) (l : List ℕ) where
   unfolding report_bytes word
   length_report = refl
 
-  report_fd : get_or (report_bytes r ++ l) 0 0 ≡ r.fd
+  report_fd : get_or (report_bytes r ++ l) 0 0 ≡ r.model.fd
   unfolding report_bytes
   report_fd = refl
 
-  report_tm : get_or (report_bytes r ++ l) 1 0 ≡ r.tm
+  report_tm : get_or (report_bytes r ++ l) 1 0 ≡ r.model.tm
   unfolding report_bytes
   report_tm = refl
 
-  report_scale : word_at (report_bytes r ++ l) 2 ≡ to_bits binary32 r.scale
+  report_scale : word_at (report_bytes r ++ l) 2 ≡ to_bits binary32 r.model.scale
   unfolding report_bytes word_at word
   report_scale = omega arith
 

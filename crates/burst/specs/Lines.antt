@@ -56,7 +56,7 @@ unfoldable pub refused_of : ℕ → List ℕ
 refused_of q = (refused_word ++ decimal q) ++ line_end
 
 abbrev pub heading : ℕ → Refined → List ℕ
-heading bits r = heading_of bits r.fd r.tm (to_bits binary32 r.scale) r.spoilt
+heading bits r = heading_of bits r.model.fd r.model.tm (to_bits binary32 r.model.scale) r.spoilt
 
 abbrev pub likelihood_lines : ℕ → List Float → List ℕ
 likelihood_lines n xs = cat n (λ i. line_of (to_bits binary32 (get_or xs i nan)))

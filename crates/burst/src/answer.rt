@@ -19,6 +19,7 @@ fn shown(x: u32) -> u32
     x
 }
 
+#[tactic(auto, using(crate::proofs::Formatted::hex_output), unfolding(crate::specs::Lines::line_of))]
 fn write_line<W: Write>(x: u32, to: &mut W) -> io::Result<()>
     ensures { OnOk result (Appends (W.contents to.old) (W.contents to.new) (line_of x)) }
 {
@@ -53,13 +54,16 @@ fn write_heading<W: Write>(
     )
 }
 
+// Promised for any number: a `Cause` would be narrower, its twelve alone.
+#[tactic(auto, using(crate::proofs::Formatted::decimal_is), unfolding(crate::specs::Lines::refused_of))]
 pub fn write_refused<W: Write>(q: u32, to: &mut W) -> io::Result<()>
     ensures { OnOk result (Appends (W.contents to.old) (W.contents to.new) (refused_of q)) }
 {
     writeln!(to, "refused {q}")
 }
 
-// The report in the answer's first ten bytes, then its n likelihoods. The bytes have room for the longest answer.
+// The report in the answer's first ten bytes, then its n likelihoods. The bytes have room for the longest answer: cut
+// to this one, they would give n, which is printed, only as a quarter of what stands past ten.
 pub fn write_answer<W: Write>(answer: &[u8], n: usize, to: &mut W) -> io::Result<()>
     requires { 10 + 4 * n ≤ length answer.now }
     ensures { OnOk result (Appends (W.contents to.old) (W.contents to.new) (answer_lines answer.now n)) }

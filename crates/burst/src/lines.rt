@@ -15,6 +15,7 @@ pub fn write_lines<W: Write>(rec: &[u8], to: &mut W) -> io::Result<()>
     if let Err(cause) = record::refine_record(rec, &mut answer) {
         return write_refused(u32::from(cause), to);
     }
-    let bits = record::record_bits(rec).unwrap_or(0);
+    // A record that was not turned away has its bits (`some_bits`).
+    let bits = record::record_bits(rec).unwrap();
     write_answer(&answer, bits, to)
 }

@@ -2,11 +2,8 @@
 use Rattle.std.proofs.Common.{◌≡◌, ℕ, ◌*◌, ◌/◌, ◌%◌, ◌≤◌, ◌<◌, List, ◌++◌, length, get_or, drop}
 use borrow.Author.Tests.{lt-ltb, le-ltb, lt-leb, le-leb}
 use lib.Ieee.{Float}
-use Rattle.ieee.proofs.Floats.{quotient_nan}
-use Rattle.seq.specs.Tab.Laws.{get_d_tab}
-use Rattle.load.specs.Load.{nothing}
-use Rattle.load.specs.Pilots.{pilot_at, listed}
-use Rattle.load.specs.declared.pilot.Pilot.{Pilot}
+use Rattle.probes.proofs.Withins.{nan_of32}
+use Rattle.load.specs.Pilots.{listed}
 use Rattle.est.specs.Estimator.{without_at}
 use Rattle.est.specs.declared.combine.Estimate.{Estimate}
 use Rattle.est.specs.declared.estimator.Estimator.{Estimator}
@@ -47,4 +44,4 @@ module _ (at : List ℕ) (new old : List Float) where
   put out h e = rw (le-leb (length at) (length old / 3) h) e
 
 -- for `grind`, of one estimate
-pub ruleset cells = (in_order, past_grid, in_grid, quotient_nan)
+pub ruleset cells = (in_order, past_grid, in_grid, nan_of32)

@@ -2,8 +2,7 @@
 use Rattle.std.proofs.Common.{◌≡◌, ℕ, ◌-◌, List, ◌++◌, length, take, drop, append-nil, arith}
 use lib.ListN.{length-drop, drop_of_length-le}
 use lib.Seq.{take_all}
-use Rattle.seq.specs.Tab.Laws.{tab_none, tab_step}
-use Rattle.near.proofs.Terms.{tab_whole}
+use Rattle.seq.specs.Tab.Laws.{tab_none, tab_step, tab_whole}
 
 module _ {A : Type 0} (a : ℕ) (l : List A) where
   rest : take (length l - a) (drop a l) ≡ drop a l

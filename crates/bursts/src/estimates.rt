@@ -1,18 +1,16 @@
 // est: the estimates at the cells asked for, each without its own pilot, from a burst that is loaded first.
 ghost use Rattle.std.specs.Prelude.{◌≡◌, ◌++◌, ◌*◌, ◌<◌, ◌≤◌, length, drop};
 ghost use Rattle.load.specs.Pilots.{listed};
-ghost use Rattle.model.specs.Values.{FitModels};
-ghost use Rattle.model.specs.Score.{Fit};
 ghost use Rattle.bursts.specs.Work.{pilots_at, starts_at, InWork};
 ghost use Rattle.bursts.specs.Estimating.{estimate_with, estimates_with, estimates_by, put_by, Estimating};
 
-use crate::work::{pilots_in, setting_of};
+use crate::work::{setting_of, trial_in};
 use dsp::Complex;
 use est::{Estimate, Estimator};
 use judge::pilot_index;
-use load::Pilots;
-use model::Setting;
+use model::{Model, Setting, Trial};
 use probes::{LoadSettings, probe_load, put};
+use refine::fit;
 
 // Pilots an estimate may use, the model by its indices, which C passes as numbers, and the factor on its errors.
 #[repr(C)]
@@ -24,7 +22,8 @@ pub struct Asked {
     pub scale: f32,
 }
 
-// At cell j of the grid, in order of symbol, then carrier.
+// At cell j of the grid, in order of symbol, then carrier. That there are carriers is a clause, here and below: every
+// layout has some, and an `Estimator`, which never divides by their number, asks nothing of it.
 #[tactic(auto, using(crate::proofs::AtCells::cells))]
 fn estimate_at(e: &Estimator, j: usize) -> Estimate
     requires { 0 < e.now.window.nc }
@@ -34,9 +33,10 @@ fn estimate_at(e: &Estimator, j: usize) -> Estimate
     let c = j % w.nc;
     let g = j / w.nc;
     if g >= w.ng {
+        // Not numbers, in the place of an Option, which C has not.
         return Estimate {
-            h: Complex::new(0.0 / 0.0, 0.0 / 0.0),
-            mse: 0.0 / 0.0,
+            h: Complex::new(f32::NAN, f32::NAN),
+            mse: f32::NAN,
         };
     }
     let own = pilot_index(e.pilots.c, e.pilots.start, c, g);
@@ -49,27 +49,31 @@ fn estimates_at(e: &Estimator, at: &[u32], out: &mut [f32])
 {
     for (i, cell) in at.iter().enumerate() {
         let x = estimate_at(e, *cell as usize);
+        // No `Soft::put`: of the estimate a `Soft` would be made first, for which alone this crate would name `soft`.
         put(&mut out[i * 3..], &[x.h.re, x.h.im, x.mse]);
     }
 }
 
 // Under the model that is asked for.
-fn estimates_by(s: Setting, a: Asked, ps: &Pilots, at: &[u32], out: &mut [f32])
-    requires fits { Fit s ps.now × FitModels s.l × (0 < s.l.nc) × (s.l.gw ≤ 12) }
+fn estimates_by(trial: &Trial, a: Asked, at: &[u32], out: &mut [f32])
+    requires layout { (0 < trial.now.setting.l.nc) × (trial.now.setting.l.gw ≤ 12) }
     requires room { length at.now * 3 ≤ length out.old }
-    ensures { out.new ≡ estimates_by s a (listed ps.now) ps.now.start.now at.now ++ drop (length at.now * 3) out.old }
+    ensures { out.new ≡ estimates_by trial.now.setting a (listed trial.now.pilots) trial.now.pilots.start.now at.now ++ drop (length at.now * 3) out.old }
 {
-    let fd = model::fd_value(s.l, s.sparse, a.fd);
-    let tm = model::tm_value(s.l, a.tm);
-    let t = est::set_model(model::numerology(s.l), fd, tm);
+    let m = Model {
+        fd: a.fd,
+        tm: a.tm,
+        scale: a.scale,
+    };
+    let (f, t) = fit(trial.setting, m);
     let e = Estimator {
-        pilots: *ps,
+        pilots: trial.pilots,
         rf: t.rf(),
         rt: t.rt(),
-        scales: t.scales,
-        window: model::window(s.l, s.ng, s.k),
-        p_h: s.p_h,
-        mse_scale: a.scale,
+        scales: f.u,
+        window: f.w,
+        p_h: trial.setting.p_h,
+        mse_scale: f.scale,
     };
     estimates_at(&e, at, out);
 }
@@ -83,10 +87,11 @@ fn estimates_in(s: Setting, a: Asked, np: usize, w: &[u32], pf: &[f32], at: &[u3
     if out.len() / 3 < at.len() {
         return;
     }
-    let ps = pilots_in(s, np, w, pf);
-    estimates_by(s, a, &ps, at, out);
+    let trial = trial_in(s, np, w, pf);
+    estimates_by(&trial, a, at, out);
 }
 
+// How many pilots there are, 0 when refused, since C has no Option.
 #[tactic(auto, using(crate::proofs::Loaded::estimates_none, crate::proofs::Loaded::few_symbols))]
 #[unsafe(no_mangle)]
 pub extern "C" fn probe_estimates(

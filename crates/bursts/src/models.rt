@@ -1,15 +1,12 @@
 // model: the nine residuals and the model chosen by them, from a burst that is loaded first.
-ghost use Rattle.std.specs.Prelude.{◌≡◌, ◌<◌};
+ghost use Rattle.std.specs.Prelude.{◌≡◌};
 ghost use Rattle.load.specs.Pilots.{listed};
-ghost use Rattle.model.specs.Values.{FitModels};
-ghost use Rattle.model.specs.Score.{Fit};
-ghost use Rattle.model.specs.Select.{tried, residuals};
+ghost use Rattle.model.specs.Select.{residuals};
 ghost use Rattle.bursts.specs.Work.{pilots_at, starts_at, InWork};
 ghost use Rattle.bursts.specs.Modelling.{selected_of, Modelling};
 
-use crate::work::{pilots_in, setting_of};
-use load::Pilots;
-use model::Setting;
+use crate::work::{setting_of, trial_in};
+use model::{Setting, Trial};
 use probes::{LoadSettings, probe_load};
 
 // How many pilots there are, 0 when refused, since C has no Option; then all is 0. A model is its two indices.
@@ -23,39 +20,29 @@ pub struct Selected {
     pub scale: f32,
 }
 
-// Of model t, fd outside and tm inside.
-fn residual(ps: &Pilots, s: Setting, t: u32) -> f64
-    requires { Fit s ps.now × FitModels s.l × (t < 9) }
-    ensures { result ≡ (tried s (listed ps.now) ps.now.start.now t).r }
-{
-    let fd = model::fd_value(s.l, s.sparse, t / 3);
-    let tm = model::tm_value(s.l, t % 3);
-    model::score(ps, s, fd, tm).r
-}
-
+// A loop and not `array::from_fn`: tried, `from_fn` lets the closure change from call to call, and that this one does
+// not did not prove.
 #[tactic(auto, using(crate::proofs::Rests::turns), unfolding(model::specs::Select::residuals))]
-fn residuals(ps: &Pilots, s: Setting) -> [f64; 9]
-    requires { Fit s ps.now × FitModels s.l }
-    ensures { result ≡ residuals s (listed ps.now) ps.now.start.now }
+fn residuals(trial: &Trial) -> [f64; 9]
+    ensures { result ≡ residuals trial.now.setting (listed trial.now.pilots) trial.now.pilots.start.now }
 {
     let mut rs = [0f64; 9];
     for (t, r) in rs.iter_mut().enumerate() {
-        *r = residual(ps, s, t as u32);
+        *r = trial.tried(t as u32).r;
     }
     rs
 }
 
 // From the np pilots of the work lists, which C lends and which have room for more.
-#[tactic(auto, using(crate::proofs::Loaded::fit_in))]
 fn select(s: Setting, np: usize, w: &[u32], pf: &[f32]) -> Selected
     requires { InWork s np w.now pf.now }
     ensures { result ≡ selected_of np s (pilots_at s np w.now pf.now) (starts_at s w.now) }
 {
-    let ps = pilots_in(s, np, w, pf);
-    let m = model::select_model(&ps, s);
+    let trial = trial_in(s, np, w, pf);
+    let m = trial.select_model();
     Selected {
         np,
-        residuals: residuals(&ps, s),
+        residuals: residuals(&trial),
         fd: m.fd,
         tm: m.tm,
         scale: m.scale,

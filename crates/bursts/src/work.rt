@@ -1,10 +1,11 @@
-// A loaded burst: its setting, and its pilots in the work lists, np of them.
+// A loaded burst: its setting, and its pilots in the work lists, np of them. A `Trial` is made of the four in one
+// place; its two callers have them from a C function each, which hands over its lists apart.
 ghost use Rattle.std.specs.Prelude.{◌≡◌, ◌≤◌};
-ghost use Rattle.load.specs.Pilots.{listed, OnGrid};
+ghost use Rattle.load.specs.Pilots.{listed};
 ghost use Rattle.bursts.specs.Work.{Set, pilots_at, starts_at, InWork};
 
 use load::Pilots;
-use model::Setting;
+use model::{Setting, Trial};
 use probes::LoadSettings;
 
 // With k held.
@@ -24,12 +25,14 @@ pub fn setting_of(s: LoadSettings, k: usize) -> Setting
 }
 
 // Carriers from 0 on, symbols and starts where `load` puts them.
-pub fn pilots_in<'a>(s: Setting, np: usize, w: &'a [u32], pf: &'a [f32]) -> Pilots<'a>
+#[tactic(auto, using(crate::proofs::Loaded::fit_in))]
+pub fn trial_in<'a>(s: Setting, np: usize, w: &'a [u32], pf: &'a [f32]) -> Trial<'a>
     requires { InWork s np w.now pf.now }
-    ensures listed { listed result ≡ pilots_at s np w.now pf.now }
-    ensures starts { result.start.now ≡ starts_at s w.now }
-    ensures on_grid { OnGrid result s.l.nc s.ng }
+    ensures setting { result.setting ≡ s }
+    ensures listed { listed result.pilots ≡ pilots_at s np w.now pf.now }
+    ensures starts { result.pilots.start.now ≡ starts_at s w.now }
 {
     let l = s.l;
-    Pilots::of_lists(w, pf, s.ng * l.nc, s.ng, np)
+    let pilots = Pilots::of_lists(w, pf, s.ng * l.nc, s.ng, np);
+    Trial { pilots, setting: s }
 }

@@ -4,53 +4,39 @@
 ghost use Rattle.std.specs.Prelude.{◌≡◌};
 ghost use Rattle.cause.specs.Causes.{cause_number, number_of};
 
-// In the order of their numbers, 1 to 12.
 #[derive(Clone, Copy, PartialEq, Eq)]
 pub enum Cause {
     // A layout above 8.
-    Layout,
+    Layout = 1,
     // A constellation or a gain code above 3.
-    Codes,
+    Codes = 2,
     // No data symbols, or more than 1,023.
-    Symbols,
+    Symbols = 3,
     // The grid has not 2 × ng × nc numbers.
-    Grid,
+    Grid = 4,
     // Variances of another length than the burst's; for `fde`, lists of unequal length.
-    Lengths,
+    Lengths = 5,
     // A lent list is too short.
-    Room,
+    Room = 6,
     // A number that is not finite, or out of its range.
-    Numbers,
+    Numbers = 7,
     // A header that fits neither check.
-    Check,
+    Check = 8,
     // A data header without data symbols.
-    NoSymbols,
+    NoSymbols = 9,
     // A header's bit other than 0 and 1, or fields that are not accepted together.
-    Fields,
+    Fields = 10,
     // A carrier or a symbol beyond the grid.
-    Place,
+    Place = 11,
     // A record too short, too long, padded with a 1, or not of the length its fields give.
-    Record,
+    Record = 12,
 }
 
 impl From<Cause> for u32 {
     ghost from_gives = { λ cause number. number ≡ cause_number cause };
 
     fn from(cause: Cause) -> u32 {
-        match cause {
-            Cause::Layout => 1,
-            Cause::Codes => 2,
-            Cause::Symbols => 3,
-            Cause::Grid => 4,
-            Cause::Lengths => 5,
-            Cause::Room => 6,
-            Cause::Numbers => 7,
-            Cause::Check => 8,
-            Cause::NoSymbols => 9,
-            Cause::Fields => 10,
-            Cause::Place => 11,
-            Cause::Record => 12,
-        }
+        cause as u32
     }
 }
 

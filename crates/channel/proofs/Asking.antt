@@ -2,19 +2,16 @@
 -- nothing.
 use Prim.Native.Nat.{ℕ, ◌+◌, ◌-◌, ◌*◌, ◌≤◌, ◌<◌, min}
 use mathlib.Core.Path.{◌≡◌, refl, sym, ◌∙◌}
-use mathlib.Core.List.{List, ◌++◌}
-use lib.Seq.{take_at}
+use mathlib.Core.List.{List}
 use native.Mathlib.Omega.{arith}
 use lib.ListN.{length, get_or, take, drop}
-use lib.Ieee.{Float, nan}
-use Rattle.seq.specs.Tab.{tab}
-use Rattle.seq.specs.Tab.Laws.{length_tab, tab_only}
+use lib.Ieee.{Float}
+use Rattle.seq.specs.Tab.Laws.{length_tab}
 use Rattle.load.specs.declared.pilot.Pilot.{Pilot}
 use Rattle.load.specs.declared.pilots.Pilots.{Pilots}
-use Rattle.load.specs.Pilots.{pilot_at, pilots, Loaded, listed, OnGrid}
+use Rattle.load.specs.Pilots.{pilot_at, listed, OnGrid}
 use Rattle.load.specs.Work.{Cut}
 use Rattle.load.specs.Fit.{places}
-use Rattle.load.specs.Load.{nothing}
 use Rattle.near.specs.Search.{pilot}
 use Rattle.near.specs.Own.{InOrder}
 use Rattle.near.specs.declared.query.Query.{Query}
@@ -35,55 +32,16 @@ use Rattle.channel.specs.Single.{estimate_under, near_of, Rows, InWork}
 use Rattle.channel.proofs.Near.{ends, among_inner, inner_at, long_inner, ascend}
 use Rattle.channel.proofs.Rows.{few_near}
 
--- ---- the records that the code makes are those of the window
+-- ---- where the window's pilots stand
 
-module _ (s : Setting) (pc pg : List ℕ) (pf : List Float) (start : List ℕ) (l : Loaded pc pg pf start s.l.nc s.ng (length pc)) (g : ℕ) (hg : g < s.ng) where
-  abbrev lo : ℕ
-  lo = get_or start (g - s.l.gw) 0
-
-  abbrev hi : ℕ
-  hi = get_or start (min (g + s.l.gw + 1) s.ng) 0
-
-  -- of the cell only its symbol is asked here
-  abbrev q : Query
-  q = record { c = 0; g = g; lc = nan; lg = nan }
-
-  abbrev w : Window
-  w = window_of s.l s.ng s.k
-
-  abbrev ps : List Pilot
-  ps = pilots pc pg pf (length pc)
-
-  ordered : InOrder ps start s.ng
-  ordered = in_order pc pg pf start s.l.nc s.ng (length pc) l
-
-  within : (lo ≤ hi) × (hi ≤ length pc)
-  within = (l.order (g - s.l.gw) (min (g + s.l.gw + 1) s.ng) (omega arith) (omega arith), omega (arith, l.order (min (g + s.l.gw + 1) s.ng) s.ng (omega arith) (omega arith), l.whole))
-
-  near_are : near_of s ps start g ≡ tab (hi - lo) (λ (i : ℕ). pilot ps (lo + i))
-  unfolding near_of
-  near_are = tab_only (λ (i : ℕ). pilot ps (lo + i)) (hi - lo) nothing _ (long_inner q w ps start ordered hg) (λ i u. inner_at q w ps start ordered hg i u)
-
-  -- at the code's numbers
-  module _ (a b m n : ℕ) (ea : a ≡ g - s.l.gw) (eb : b ≡ min (g + s.l.gw + 1) s.ng) (em : m ≡ get_or start a 0) (en : n ≡ get_or start b 0) where
-    pub spans : Rows s.l.nc s.ng start → s.l.gw ≤ 12 → (m ≤ n) × (n ≤ length pc) × (n - m ≤ 2725)
-    spans r h = rw (em, en, ea, eb) (within.0, within.1, omega (arith, few_near s.l.nc s.ng start r g s.l.gw l.carriers h hg))
-
-    -- put in front of a list as long as they are
-    pub near_from : (rs rest : List Pilot) (k : ℕ) → k ≡ n - m → rs ≡ tab k (λ (i : ℕ). pilot ps (m + i)) → take (n - m) (rs ++ rest) ≡ near_of s ps start g
-    near_from rs rest k h e =
-        let f : ℕ → Pilot = λ i. pilot ps (m + i) in
-        let t : take (n - m) (tab (n - m) f ++ rest) ≡ tab (n - m) f = take_at (tab (n - m) f) rest (n - m) (length_tab f (n - m)) in
-        let front : take (n - m) (rs ++ rest) ≡ tab (n - m) f = rw (e, h) t in
-        let these : tab (n - m) f ≡ near_of s ps start g = rw (em, en, ea, eb) (sym near_are) in
-        front ∙ these
-
--- as they are lent
 pub near_spans : (ps : Pilots) (s : Setting) (g : ℕ) → OnGrid ps s.l.nc s.ng → Rows s.l.nc s.ng ps.start.now → s.l.gw ≤ 12 → g < s.ng
     → let m = get_or ps.start.now (g - s.l.gw) 0 in
     let n = get_or ps.start.now (min (g + s.l.gw + 1) s.ng) 0 in
     (m ≤ n) × (n ≤ length ps.c.now) × (n - m ≤ 2725)
-near_spans ps s g l r h hg = spans s ps.c.now ps.g.now ps.f.now ps.start.now l g hg _ _ _ _ refl refl refl refl r h
+near_spans ps s g l r h hg =
+    let a = g - s.l.gw in
+    let b = min (g + s.l.gw + 1) s.ng in
+    (l.order a b (omega arith) (omega arith), omega (arith, l.order b s.ng (omega arith) (omega arith), l.whole), omega (arith, few_near s.l.nc s.ng ps.start.now r g s.l.gw l.carriers h hg))
 
 -- ---- of the parts of the work lists that are lent on
 

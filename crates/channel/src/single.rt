@@ -1,20 +1,21 @@
 // est.rs, `estimate`, by all pilots under the model that `new` sets. Those near the cell are handed on as one list of
 // records.
-ghost use Rattle.std.specs.Prelude.{◌≡◌, ◌<◌, take};
+ghost use Rattle.std.specs.Prelude.{◌≡◌, ◌<◌};
 ghost use Rattle.refine.specs.Back.{Agrees};
 ghost use Rattle.refine.specs.Whole.{pilots_in, starts_in};
 ghost use Rattle.channel.specs.Single.{estimate_under, near_of, InWork};
 
-use crate::records::{Records, near_records};
+use crate::records::near_records;
+use arrayvec::ArrayVec;
 use est::Estimate;
 use listed::Ask;
-use load::Pilots;
+use load::{Pilot, Pilots};
 use refine::{Plan, places_of};
 
 // Of the np pilots in the work lists those near symbol g.
-fn near_loaded(p: Plan, np: usize, g: usize, wf: &[f32], wu: &[u32]) -> Records
+fn near_loaded(p: Plan, np: usize, g: usize, wf: &[f32], wu: &[u32]) -> ArrayVec<Pilot, 2725>
     requires { Agrees p × InWork p np wf.now wu.now × (g < p.source.ng) }
-    ensures { take result.n result.ps ≡ near_of p.setting (pilots_in p np wf.now wu.now) (starts_in p wu.now) g }
+    ensures { result.items ≡ near_of p.setting (pilots_in p np wf.now wu.now) (starts_in p wu.now) g }
 {
     let n = places_of(p.source);
     let pilots = Pilots::of_lists(wu, wf, n, p.source.ng, np);

@@ -1,17 +1,15 @@
 -- The exponentials against the largest metric of all serve each half that has it. Assumes nothing.
-use Prim.Native.Nat.{ℕ, zero, suc, ◌^◌, ◌≤◌, ◌<◌}
+use Prim.Native.Nat.{ℕ, zero, suc, ◌^◌, ◌<◌}
 use mathlib.Core.Path.{◌≡◌, refl, ap, ◌∙◌}
 use mathlib.Core.Bool.{not, cond}
 use mathlib.Core.List.{List, ◌++◌}
 use native.Mathlib.Omega.{arith}
 use lib.Dec.{T, eqb}
-use lib.ListN.{length, take, drop, get_or-append}
-use Rattle.std.proofs.lemmas.List.{append-nil, length-take-le}
-use Rattle.std.proofs.Math.ListN.{drop_of_length-le}
+use lib.ListN.{get_or-append}
 use lib.Ieee.{Float, nan, lt}
 use Rattle.seq.specs.Loop.Laws.{for_same}
 use Rattle.seq.specs.Tab.{tab}
-use Rattle.seq.specs.Tab.Laws.{length_tab, tab_end, get_d_tab}
+use Rattle.seq.specs.Tab.Laws.{length_tab, get_d_tab}
 use Rattle.ieee.specs.Num.{◌⊞◌, zero32}
 use Rattle.ieee.specs.Order.{max_of}
 use Rattle.ieee.proofs.Orders.{max_laws}
@@ -25,13 +23,6 @@ use Rattle.demap.proofs.Top.{found}
 -- what was written is there
 pub tabbed_at : (f : ℕ → Float) (n : ℕ) (l : List Float) (k : ℕ) → k < n → at (tab n f ++ l) k ≡ f k
 tabbed_at f n l k h = get_or-append (tab n f) l nan k (omega (arith, length_tab f n)) ∙ get_d_tab f n k nan h
-
--- the first n of l were written, and the rest is l's
-pub front_written : (f : ℕ → Float) (n k : ℕ) (l front : List Float) → n ≤ length l → k ≤ n → n ≤ k → front ≡ tab k f ++ drop k (take n l) → front ++ drop n l ≡ tab n f ++ drop n l
-front_written f n k l front within h h' e =
-    let all : length (take n l) ≡ n = length-take-le n l within in
-    let whole : front ≡ tab n f ++ drop n (take n l) = tab_end f k n (take n l) front h h' e in
-    ap (λ (t : List Float). t ++ drop n l) (whole ∙ ap (λ (t : List Float). tab n f ++ t) (drop_of_length-le (take n l) (omega arith)) ∙ append-nil (tab n f))
 
 module _ (d : List Float) (bps : ℕ) where
   pub largest_over : Over d bps (max_of (top_of d bps 0 0) (top_of d bps 0 1))

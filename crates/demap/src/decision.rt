@@ -30,7 +30,7 @@ pub fn decide(y: Complex, h: Complex, pts: &Points) -> Complex
         e: f32::INFINITY,
         x: Complex::ZERO,
     };
-    // by number: a point is two numbers of the flat table
+    // by number, as `Points::energy`, which says what a walk over the pairs would be
     for k in 0..pts.count() {
         let x = pts.point(k);
         best = best.nearer(distance(y, h, x), x);

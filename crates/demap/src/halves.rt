@@ -3,7 +3,9 @@ ghost use Rattle.soft.specs.Soft.{bit_of};
 ghost use Rattle.demap.specs.Demap.{top_of, sum_of};
 ghost use Rattle.demap.specs.Shared.{picked_of, CanStep, FoldsHalf};
 
-// A number for each label of so many bits, in the order of the labels. What follows the last is not read.
+// A number for each label of so many bits, in the order of the labels. What follows the last is not read; no
+// `ArrayVec`, as in `Points`: how many there are follows from bps, and the source's array, which the definitions have,
+// is of 64.
 #[derive(Clone, Copy)]
 pub struct ByLabel {
     pub bps: usize,
@@ -21,7 +23,8 @@ impl ByLabel {
     }
 
     // From `first` on, a step for each label whose bit b is `bit`: a number that the label's is compared with, and no
-    // flag, here and below. That b is below bps bounds an index.
+    // flag. A half is these two numbers here and below, as in `top_of`: this function alone reads them. That b is
+    // below bps keeps `bps - 1 - b` from going below 0.
     fn fold_half<F: Fn(f32, f32) -> f32>(&self, b: usize, bit: usize, first: f32, step: F) -> f32
         requires within { b < self.now.bps }
         requires can { CanStep (F.pre step) self.now.at self.now.bps b bit }

@@ -55,7 +55,7 @@ impl Weights {
 }
 
 // The likelihood ln P(0) / P(1) of each bit of the cell, into the first bps of `out`.
-#[tactic(auto, using(crate::proofs::Loops::tabs, crate::proofs::Sharing::front_written), unfolding(crate::specs::Demap::likelihoods))]
+#[tactic(auto, using(crate::proofs::Loops::fronts), unfolding(crate::specs::Demap::likelihoods))]
 pub fn demap(c: Cell, pts: &Points, out: &mut [f32])
     requires { pts.now.bps ≤ length out.old }
     ensures { out.new ≡ likelihoods c pts.now.pts pts.now.bps ++ drop pts.now.bps out.old }

@@ -31,7 +31,7 @@ fn metric(c: Cell, x: Complex) -> f32
 }
 
 // The metrics of the points, by their labels.
-#[tactic(auto, using(crate::proofs::Loops::tabs, crate::proofs::Sharing::front_written), unfolding(crate::specs::Demap::metrics_of, soft::specs::Tree::page))]
+#[tactic(auto, using(crate::proofs::Loops::fronts), unfolding(crate::specs::Demap::metrics_of, soft::specs::Tree::page))]
 pub fn metrics(c: Cell, pts: &Points) -> ByLabel
     ensures bits { result.bps ≡ pts.now.bps }
     ensures each { result.at ≡ metrics_of c pts.now.pts pts.now.bps }

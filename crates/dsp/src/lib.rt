@@ -7,7 +7,7 @@ ghost use Rattle.dsp.specs.Arithmetic.{complex, conjᶜ, norm_sqr, scaleᶜ};
 mod flat;
 mod operators;
 
-#[derive(Clone, Copy)]
+#[derive(Clone, Copy, Default)]
 pub struct Complex {
     pub re: f32,
     pub im: f32,

@@ -32,27 +32,6 @@ pub pi_decimal : pi ≡ round binary64 false 31415926535897932384626433832795028
 unfolding of_bits round
 pi_decimal = refl
 
--- ---- as a whole number times a power of two
-pub zero_is : zero+ ≡ fin false 0 (pos 0)
-unfolding of_bits
-zero_is = refl
-
-pub unit_is : unit ≡ fin false 1 (pos 0)
-unfolding of_bits
-unit_is = refl
-
-pub zero64_is : zero64 ≡ fin false 0 (pos 0)
-unfolding of_bits
-zero64_is = refl
-
-pub minus87_is : minus87 ≡ fin true 87 (pos 0)
-unfolding of_bits neg
-minus87_is = refl
-
 pub least_is : least ≡ fin false 332307 (negsuc 117)
 unfolding of_bits
 least_is = refl
-
-pub most_is : most ≡ fin false 1 (pos 9)
-unfolding of_bits
-most_is = refl

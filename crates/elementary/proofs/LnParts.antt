@@ -1,13 +1,14 @@
 -- ln and ln_1p by cases, and ln's m and e off the bit pattern. Assumes nothing.
-use Rattle.std.proofs.Common.{◌≡◌, ℕ, zero, suc, ◌+◌, ◌-◌, ◌*◌, ◌/◌, ◌%◌, ◌^◌, ◌<◌, ◌≤◌, Bool, true, false, not, T, leb, ◌⊎◌, negsuc, sym, refl, ap, ◌∙◌, subst, inl, inr, le_trans, le_of_eq, lt_of_lt_of_le, lt_of_le_of_lt, mul-le-mul_right, mul_assoc, div-lt_iff_lt-mul, lt_of_mul-lt-mul_right, eq-or-lt_of_le, mul-lt-mul_of_pos_right, mul-pos, mul_right_comm, mul-div_cancel, arith, lit<, lit≤, lt→ltb, leb→le, nltb→le, T_not, pow_pos, pow-add, shl_lt}
+use Rattle.std.proofs.Common.{true≢false, ◌≡◌, ℕ, zero, suc, ◌+◌, ◌-◌, ◌*◌, ◌/◌, ◌%◌, ◌^◌, ◌<◌, ◌≤◌, Bool, true, false, not, T, leb, ◌⊎◌, negsuc, sym, refl, ap, ◌∙◌, subst, inl, inr, le_trans, le_of_eq, lt_of_lt_of_le, lt_of_le_of_lt, mul-le-mul_right, mul_assoc, div-lt_iff_lt-mul, lt_of_mul-lt-mul_right, eq-or-lt_of_le, mul-lt-mul_of_pos_right, mul-pos, mul_right_comm, mul-div_cancel, arith, lit<, lit≤, lt→ltb, leb→le, nltb→le, T_not, pow_pos, pow-add, shl_lt}
 use lib.Dec.{nleb→lt}
-use lib.Ieee.{Float, nan, inf, fin, binary32, up, down, size, round, lt, fits, of_bits, to_bits, nan_bits}
+use lib.Ieee.{Float, nan, inf, fin, binary32, up, down, size, round, lt, is_nan, fits, of_bits, to_bits, nan_bits}
 use lib.Ieee.Bits.{is_false, nan_bits_is, nan_bits_above, to_bits-lt}
 use lib.Ieee.Fits.{down_pos}
 use lib.Ieee.Exact.{HasValue}
 use lib.Ieee.Scale.{finite}
 use Rattle.ieee.proofs.Codec.{size_is, decode_zero, decode_suc, decode_inf, no_digits}
 use Rattle.ieee.proofs.Floats.{back}
+use Rattle.std.specs.Float.{float_is_finite}
 use Rattle.elementary.specs.Domain.{Number, FromLeast}
 use Rattle.elementary.specs.FixedPoint.{M, L, whole_of, over}
 use Rattle.elementary.specs.Ln.{odd_of, ln_parts, ln_at, ln1p_at}
@@ -164,11 +165,39 @@ pub ln_at_inf : (s : Bool) → ln_at (inf s) ≡ inf s
 unfolding ln_at
 ln_at_inf s = refl
 
-pub bits_inf : (b : ℕ) → b ≡ 2139095040 → of_bits binary32 b ≡ inf false
-bits_inf b e = ap (λ (x : ℕ). of_bits binary32 x) e ∙ at_top
+-- what is no number, or none that is finite, is answered by itself
+pub not_finite : (v : Float) → float_is_finite v ≡ false → v ≡ ln_at v
+unfolding float_is_finite
+not_finite nan e = sym ln_at_nan
+not_finite (inf s) e = sym (ln_at_inf s)
+not_finite (fin s m d) e = absurd (true≢false e)
+
+finite_number : (v : Float) → float_is_finite v ≡ true → Number v
+unfolding float_is_finite is_nan
+finite_number nan e = absurd (true≢false (sym e))
+finite_number (inf s) e = absurd (true≢false (sym e))
+finite_number (fin s m d) e = tt
+
+inf_pattern : of_bits binary32 2139095040 ≡ inf false
+unfolding of_bits
+inf_pattern = refl
+
+-- from 1e-30 on the pattern of what is finite is a normal value's
+pub finite_pattern : (v : Float) → fits binary32 v ≡ true → float_is_finite v ≡ true → FromLeast v → (8388608 ≤ to_bits binary32 v) × (to_bits binary32 v < 2139095040)
+unfolding float_is_finite
+finite_pattern v held e h = (d.0, below (to_bits binary32 v) d.1 top)
   where
-    at_top : of_bits binary32 2139095040 ≡ inf false
-    at_top = unfold of_bits in refl
+    d : (8388608 ≤ to_bits binary32 v) × (to_bits binary32 v ≤ 2139095040)
+    d = domain_of v held (finite_number v e) h
+
+    top : to_bits binary32 v ≡ 2139095040 → ⊥
+    top b = true≢false (sym e ∙ ap float_is_finite (sym (back binary32 v held) ∙ ap (of_bits binary32) b ∙ inf_pattern))
+
+    below : (b : ℕ) → b ≤ 2139095040 → (b ≡ 2139095040 → ⊥) → b < 2139095040
+    below b h n = omega arith
+
+pub ln_of_pattern : (v r : Float) → fits binary32 v ≡ true → r ≡ ln_at (of_bits binary32 (to_bits binary32 v)) → r ≡ ln_at v
+ln_of_pattern v r held e = e ∙ ap ln_at (back binary32 v held)
 
 -- ---- ln_1p
 pub t_lt : (t : ℕ) → t ≤ M → 2 * (t * 2147483648 / (8589934592 + t)) < 2 ^ 31

@@ -18,9 +18,6 @@ odd_turn_lem j W S h k = sum (M / (2 * j + 1)) (W * S) (div-le_self M (2 * j + 1
     sum : (x y : ℕ) → x ≤ M → y ≤ 2 ^ 63 → x + y / M ≤ 2 ^ 33
     sum x y a b = omega arith
 
-pub odd_square : (Z : ℕ) → Z < 2 ^ 31 → Z * Z ≤ 2 ^ 31 * 2 ^ 31
-odd_square Z h = mul-le-mul (le_of_lt h) (le_of_lt h)
-
 pub odd_last : (Z S : ℕ) → Z < 2 ^ 31 → S ≤ 2 ^ 33 → Z * S ≤ 2147483647 * 2 ^ 33
 odd_last Z S h k = mul-le-mul (pred Z h) k
   where

@@ -70,7 +70,7 @@ impl Rest {
     }
 }
 
-// sin at the size q / B, or n quarters further on.
+// sin at the size q / B, or n quarters further on: a number of quarters, as the recipe's k.
 #[tactic(auto, unfolding(crate::specs::Circular::wave_at, crate::specs::Circular::sin_part, crate::specs::Circular::cos_taken))]
 fn wave(n: u64, q: u64) -> f64
     requires { (n ≤ 1) × (q ≤ 2 ^ 40) }
@@ -82,7 +82,8 @@ fn wave(n: u64, q: u64) -> f64
     rest.turn((k + n) % 4)
 }
 
-// The sine of p, which a negative p negates as a float.
+// The sine of p, which a negative p negates as a float. `InTurns` is a clause, of `cos` and `size30` too: a caller
+// makes an angle for one or two calls, and a struct of it would be made there for these alone and opened here at once.
 #[tactic(auto, using(crate::proofs::Quarters::sines))]
 pub fn sin(p: f64) -> f64
     requires { InTurns p }

@@ -55,10 +55,7 @@ pub fn size30(p: f64) -> u64
     requires { Number p × InTurns p }
     ensures { (result ≡ whole_of B p) × (result ≤ 2 ^ 39) }
 {
-    if p < 0.0 {
-        return std::num::truncating_f64_to_u64(-p * 1073741824.0);
-    }
-    std::num::truncating_f64_to_u64(p * 1073741824.0)
+    std::num::truncating_f64_to_u64(ieee::abs(p) * 1073741824.0)
 }
 
 // (a - b) / 2^30. Not one function with over32: they share the choice of the sign alone, and a trait that names the

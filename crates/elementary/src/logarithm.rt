@@ -45,18 +45,15 @@ fn ln_bits(b: u32) -> f32
 }
 
 // The logarithm of v, from 1e-30 on.
+#[tactic(auto, using(crate::proofs::LnParts::not_finite, crate::proofs::LnParts::finite_pattern, crate::proofs::LnParts::ln_of_pattern))]
 pub fn ln(v: f32) -> f32
     requires { FromLeast v }
     ensures { result ≡ ln_at v }
 {
-    if v.is_nan() {
-        return f32::NAN;
-    }
-    let b = f32::to_bits(v);
-    if b >= 0x7f80_0000 {
+    if !v.is_finite() {
         return v;
     }
-    ln_bits(b)
+    ln_bits(f32::to_bits(v))
 }
 
 // The logarithm of 1 + t, for t in 0..1.

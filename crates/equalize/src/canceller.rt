@@ -57,8 +57,8 @@ fn spread_copy(sp: &Spreader, xm: &[f32]) -> [f32; 218]
 // The carriers less what xs brings to them, filtered, to z. The walk is `equalize`'s with another divisor, another
 // product and other sums: one function for both would have to be told all three.
 #[tactic(auto, using(crate::proofs::Loops::loops), unfolding(crate::specs::Sic::turn, crate::specs::Sic::filtered, crate::specs::Sic::weight, crate::specs::Sic::carriers_of))]
-fn cancel(sp: &Spreader, r: &ReceivedSymbol, xs: &[f32], vx: f32, z: &mut [f32]) -> SicSums
-    requires { Room sp.now.m r.now.y.now r.now.h.now r.now.v.now z.old × (2 * sp.now.m ≤ length xs.now) }
+fn cancel(sp: &Spreader, r: &ReceivedSymbol, xs: &[f32; 218], vx: f32, z: &mut [f32]) -> SicSums
+    requires { Room sp.now.m r.now.y.now r.now.h.now r.now.v.now z.old }
     ensures { Equalizes sp.now.m (carriers_of sp.now.m r.now.y.now r.now.h.now r.now.v.now r.now.gain xs.now vx) result z.old z.new }
 {
     let mut s = SicSums {
@@ -88,7 +88,8 @@ fn restore(sp: &Spreader, mu: f32, xm: &[f32], z: &mut [f32])
     }
 }
 
-// For symbols of the expected values xm and the variance vx; the despread symbols go to z.
+// For symbols of the expected values xm and the variance vx; the despread symbols go to z. That xm is long enough is a
+// clause here and above: it is lent as y, h and v are (`ReceivedSymbol`), and an array would be a copy of it.
 pub fn sic(sp: &Spreader, r: &ReceivedSymbol, xm: &[f32], vx: f32, z: &mut [f32]) -> Equalized
     requires { Room sp.now.m r.now.y.now r.now.h.now r.now.v.now z.old × (2 * sp.now.m ≤ length xm.now) }
     ensures { Equalizes sp.now.m (sic_of sp.now.m sp.now.tw r.now.y.now r.now.h.now r.now.v.now r.now.gain xm.now vx) result z.old z.new }

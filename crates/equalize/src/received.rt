@@ -4,7 +4,8 @@ ghost use Rattle.equalize.specs.Filter.{channel_of};
 
 use dsp::Complex;
 
-// Cells y, their channel estimates h, their variances v of noise and estimation error, and the gain of the data. That
+// Cells y, their channel estimates h, their variances v of noise and estimation error, and the gain of the data: three
+// lists, as document 01 has `fde` lent them. That
 // a symbol's carriers lie in its lists is a clause (`Room`) and no ghost field: how many they are is the spreader's to
 // say, and z, where the answer goes, is lent beside.
 #[derive(Clone, Copy)]

@@ -4,7 +4,7 @@ use lib.Ieee.{Float, nan}
 use Rattle.dsp.specs.Arithmetic.{complex}
 use Rattle.load.specs.declared.pilot.Pilot.{Pilot}
 use Rattle.load.specs.Load.{nothing}
-use Rattle.near.proofs.Sorting.{length_mapped}
+use Rattle.std.proofs.lemmas.List.{length-map}
 use Rattle.solve.specs.Solve.{at}
 use Rattle.near.specs.declared.query.Query.{Query}
 use Rattle.est.specs.Columns.{carriers, symbols, variances, reals, imaginaries}
@@ -18,10 +18,10 @@ nth_map f (x ∷ xs) (suc i) z y h = nth_map f xs i z y (omega arith)
 
 module _ (ps : List Pilot) where
   pub long : length (carriers ps) ≡ length ps
-  long = length_mapped (λ (p : Pilot). p.c) ps
+  long = length-map ps (λ (p : Pilot). p.c)
 
   pub long_symbols : length (symbols ps) ≡ length ps
-  long_symbols = length_mapped (λ (p : Pilot). p.g) ps
+  long_symbols = length-map ps (λ (p : Pilot). p.g)
 
   module _ (i : ℕ) (h : i < length ps) where
     pub carrier_of : slice_index (carriers ps) i ≡ (get_or ps i nothing).c

@@ -1,4 +1,6 @@
-// The correlations of a model, in arrays: nothing is allocated.
+// The correlations of a model. Arrays and their counts: `set_model` fills the front of each in place. The kit's
+// ArrayVec gives a front only of what it holds: it would be made full and cut by `truncate`, which writes the rest once
+// more.
 ghost use Rattle.std.specs.Prelude.{◌≤◌};
 
 use crate::model::Scales;

@@ -11,7 +11,7 @@ use near::{Query, Window};
 
 // The pilots, the correlations rf and rt of a model with its units of distance, which pilots an estimate uses, the
 // channel's power, and the factor on the errors. The source owns its lists; here they are lent, since nothing is
-// allocated.
+// allocated. Each caller writes the literal: a constructor's contract would state the six facts again as clauses.
 #[derive(Clone, Copy)]
 pub struct Estimator<'a> {
     pub pilots: Pilots<'a>,
@@ -39,12 +39,9 @@ impl Estimator<'_> {
         requires { Fetched self.now q m idx.now }
         ensures { result ≡ combined_of m self.now q (picked self.now idx.now) }
     {
-        let mut ps = [Pilot {
-            c: 0,
-            g: 0,
-            h: Complex::ZERO,
-            var: 0.0,
-        }; 40];
+        // No ArrayVec: `pick` has counted the pilots, and each push would count again.
+        let mut ps = [Pilot::default(); 40];
+        // By place: the invariant of a loop over `ps.iter_mut().zip(idx)` cannot name ps (tried).
         for (j, i) in idx.iter().enumerate() {
             ps[j] = self.pilots.pilot(*i as usize);
         }

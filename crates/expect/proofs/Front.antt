@@ -78,17 +78,6 @@ module _ (dc : ℕ) (soft l : List Float) where
   unfolding respread
   respread_front gain nsym h = cat-same nsym _ _ (λ t u. row_front t (omega (arith, stretch t nsym (dc * 3) (length soft) u h, mul_assoc t dc 3)) gain)
 
--- the priors followed by anything
-pub soft_front : (unit : List Float) (bps ncell : ℕ) (sl l : List Float) → ncell * bps ≤ length sl → soft_cells unit bps ncell (sl ++ l) ≡ soft_cells unit bps ncell sl
-unfolding soft_cells
-soft_front unit bps ncell sl l h =
-    cat-same ncell _ _
-    (λ cell u. soft_own unit bps (sl ++ l) sl cell (λ b v. get_or-append sl l nan (cell * bps + b) (omega (arith, stretch cell ncell bps (length sl) u h))))
-
-pub expected_front : (s : Shape) (unit sl l : List Float) → s.nsym * s.dc * s.bps ≤ length sl → expected_of s unit (sl ++ l) ≡ expected_of s unit sl
-unfolding expected_of
-expected_front s unit sl l h = rw (soft_front unit s.bps (s.nsym * s.dc) sl l h) refl
-
 -- ---- a symbol by its own stretch
 
 module _ (dc : ℕ) (soft : List Float) (t : ℕ) where

@@ -47,15 +47,3 @@ length_soft unit bps sl ncell = length_cat 3 (soft_at unit bps sl) (length_cell 
 pub length_row : (dc : ℕ) (soft : List Float) (gain : Float) (t : ℕ) → length (spread_row dc soft t gain) ≡ dc * 3
 unfolding spread_row scaled_cells
 length_row dc soft gain t = length_cat 3 _ (λ j. refl) dc
-
-pub length_respread : (dc : ℕ) (gain : Float) (nsym : ℕ) (soft : List Float) → length (respread dc gain nsym soft) ≡ nsym * dc * 3
-unfolding respread
-length_respread dc gain nsym soft = length_cat (dc * 3) _ (λ t. length_row dc soft gain t) nsym ∙ sym (mul_assoc nsym dc 3)
-
-pub length_expected : (s : Shape) (unit sl : List Float) → length (expected_of s unit sl) ≡ s.nsym * s.dc * 3
-unfolding expected_of
-length_expected s unit sl = go s.spread
-  where
-    go : (b : Bool) → length (cond b (respread s.dc s.gain s.nsym (soft_cells unit s.bps (s.nsym * s.dc) sl)) (soft_cells unit s.bps (s.nsym * s.dc) sl)) ≡ s.nsym * s.dc * 3
-    go true = length_respread s.dc s.gain s.nsym (soft_cells unit s.bps (s.nsym * s.dc) sl)
-    go false = length_soft unit s.bps sl (s.nsym * s.dc)

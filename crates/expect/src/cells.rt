@@ -1,23 +1,13 @@
-// Cells in a flat list: re, im, variance, re, im, variance, ..; and the soft point of every cell.
-ghost use Rattle.std.specs.Prelude.{◌≡◌, ◌++◌, ◌+◌, ◌*◌, ◌≤◌, length, drop, set};
+// The soft point of every cell.
+ghost use Rattle.std.specs.Prelude.{◌≡◌, ◌++◌, ◌*◌, ◌≤◌, length, drop};
 ghost use Rattle.expect.specs.Expect.{soft_cells};
 
-use dsp::Complex;
 use points::Points;
 use soft::soft_point;
 
-// The three numbers of a cell, in its place: three, where `Complex::put` has places of two.
-pub fn put_cell(out: &mut [f32], cell: usize, x: Complex, v: f32)
-    requires { 3 * cell + 3 ≤ length out.old }
-    ensures { out.new ≡ set (set (set out.old (3 * cell) x.re) (3 * cell + 1) x.im) (3 * cell + 2) v }
-{
-    out[3 * cell] = x.re;
-    out[3 * cell + 1] = x.im;
-    out[3 * cell + 2] = v;
-}
-
-// The soft points of all cells, a point's priors each. By number, here and in the loops over a symbol: a cell has its
-// place in two lists, with another stride in each, and one of them is written (`respread` has what that asks).
+// A cell's priors stand at `cell * bps`, its three numbers at `3 * cell`. By number, and not by a chunk of either list:
+// tried with `chunks_exact_mut`, after which a proof knows the length of `out` alone and not what was written. Of
+// lists that were cut to ncell cells only a quotient of a length, by bps or 3, would give ncell.
 #[tactic(auto, using(crate::proofs::Loops::cells, crate::proofs::Written::cell_step, crate::proofs::Written::soft_cell_lem, crate::proofs::Laws::length_cell), unfolding(crate::specs::Expect::soft_cells))]
 pub fn soft_cells(unit: &Points, ncell: usize, sl: &[f32], out: &mut [f32])
     requires { (ncell * unit.now.bps ≤ length sl.now) × (ncell * 3 ≤ length out.old) }
@@ -27,7 +17,6 @@ pub fn soft_cells(unit: &Points, ncell: usize, sl: &[f32], out: &mut [f32])
     for cell in 0..ncell {
         let at = cell * bps;
         let to = at + bps;
-        let s = soft_point(&sl[at..to], unit);
-        put_cell(out, cell, s.mean, s.var);
+        soft_point(&sl[at..to], unit).put(out, cell);
     }
 }

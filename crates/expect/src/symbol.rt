@@ -1,5 +1,6 @@
-// One symbol of a spread burst: what its soft points say of it as sent. dc, its carriers, is no list's length: a cell
-// has three numbers, and a list may be longer.
+// One symbol of a spread burst: what its soft points say of it as sent. dc, how many carriers it has, is no list's
+// length: a list has two or three numbers a carrier, and may be longer. Nor is a symbol a part of its list: the
+// definitions say which of the list's it is, t.
 ghost use Rattle.std.specs.Prelude.{◌≡◌, ◌++◌, ◌+◌, ◌*◌, ◌≤◌, length, drop};
 ghost use Rattle.std.specs.Prelude.{map};
 ghost use Rattle.std.specs.List.{fold, range_with_len};
@@ -8,11 +9,11 @@ ghost use Rattle.points.specs.Power.{minus_zero};
 ghost use Rattle.spread.specs.Spreader.{twiddles_of};
 ghost use Rattle.expect.specs.Expect.{row_means, row_variance, var_at, spread_means, spread_variance, scaled_cells, spread_row};
 
-use crate::cells::put_cell;
 use dsp::Complex;
+use soft::Soft;
 use spread::Spreader;
 
-// The means of symbol t, re and im. That the symbol lies within its list bounds an index, here and below.
+// The means of symbol t, re and im. That `(t * dc + dc) * 3` numbers are lent bounds an index, here and below.
 #[tactic(auto, using(crate::proofs::Loops::numbers), unfolding(crate::specs::Expect::row_means))]
 pub fn row_means(dc: usize, soft: &[f32], t: usize, out: &mut [f32])
     requires { ((t * dc + dc) * 3 ≤ length soft.now) × (2 * dc ≤ length out.old) }
@@ -21,7 +22,7 @@ pub fn row_means(dc: usize, soft: &[f32], t: usize, out: &mut [f32])
     let base = t * dc;
     for j in 0..dc {
         let cell = base + j;
-        Complex::new(soft[3 * cell], soft[3 * cell + 1]).put(out, j);
+        Soft::at(soft, cell).mean.put(out, j);
     }
 }
 
@@ -31,7 +32,7 @@ fn row_sum(dc: usize, soft: &[f32], t: usize) -> f32
     ensures { result ≡ fold (λ s x. s ⊞ x) minus_zero (map (λ j. var_at soft.now (t * dc + j)) (range_with_len 0 dc)) }
 {
     let base = t * dc;
-    (0..dc).map(|j| soft[3 * (base + j) + 2]).sum()
+    (0..dc).map(|j| Soft::at(soft, base + j).var).sum()
 }
 
 // Their mean. dc is bounded so that an f32 holds it.
@@ -67,7 +68,11 @@ pub fn scaled_cells(dc: usize, gain: f32, mv: f32, row: &[f32], out: &mut [f32])
     ensures { out.new ≡ scaled_cells dc gain mv row.now ++ drop (dc * 3) out.old }
 {
     for j in 0..dc {
-        put_cell(out, j, Complex::at(row, j).scale(gain), mv);
+        let s = Soft {
+            mean: Complex::at(row, j).scale(gain),
+            var: mv,
+        };
+        s.put(out, j);
     }
 }
 

@@ -38,9 +38,6 @@ passed layout h e = go (ltb 8 layout) refl (accepted h) e
     go false q false e = absurd (omega arith)
 
 module _ (layout : ℕ) (h : Header) (old : List ℕ) where
-  pub kept : (q : ℕ) → q ≡ write_refusal layout h → (q ≡ 0 → ⊥) → Writes layout h q old old
-  kept q e n = record { answer = e; out = ap (λ (t : Bool). cond t (bits_of layout h) old) (sym (ne_eqb (write_refusal layout h) 0 (λ z. n (e ∙ z)))) }
-
   module _ (bits : List ℕ) (masks : Layout) (z : 0 ≡ write_refusal layout h) (e : masks ≡ layout_of layout) where
     wrote : bits ≡ bits_of layout h → Writes layout h 0 old bits
     wrote b = record { answer = z; out = rw (sym z) b }

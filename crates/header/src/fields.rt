@@ -4,8 +4,10 @@ ghost use Rattle.header.specs.Fields.{accepted, data_info, only_info, data_from,
 
 use crate::mode::DataMode;
 
-// The codes are numbers, as in header.rs: document 01 has a row for fields that are not accepted. Where 32 bits are
-// read, `as` cuts nothing off, which the check proves; `try_from` would want an arm for what cannot be.
+// One struct for both kinds of burst, as in header.rs: a call may name fields that do not go together, such as a header
+// only that is sparse, which document 01 has refused as `Cause::Fields`; two variants could not hold them. The codes
+// are numbers for the same reason: a call may name one that does not exist. Where 32 bits are read, `as` cuts nothing
+// off, which the check proves; `try_from` would want an arm for what cannot be.
 #[derive(Clone, Copy)]
 pub struct Header {
     // 0 = QPSK, 1 = 8PSK, 2 = 16QAM, 3 = 64QAM (0 in a header-only burst).
@@ -64,23 +66,23 @@ impl Header {
             mode: DataMode::PLAIN,
         }
     }
-}
 
-// The 32 bits of information of a data burst.
-#[tactic(auto, using(crate::proofs::Information::roomy), unfolding(crate::specs::Fields::data_info))]
-pub(crate) fn data_info(h: Header) -> u32
-    requires { accepted h ≡ true }
-    ensures { result ≡ data_info h }
-{
-    let top = u32::from(h.constellation) * 1073741824 + u32::from(h.nsym) * 1048576;
-    top + u32::from(h.user) * 16 + (h.mode.bits() + u32::from(h.sparse))
-}
+    // The 32 bits of information of a data burst.
+    #[tactic(auto, using(crate::proofs::Information::roomy), unfolding(crate::specs::Fields::data_info))]
+    pub(crate) fn data_info(self) -> u32
+        requires { accepted self ≡ true }
+        ensures { result ≡ data_info self }
+    {
+        let top = u32::from(self.constellation) * 1073741824 + u32::from(self.nsym) * 1048576;
+        top + u32::from(self.user) * 16 + (self.mode.bits() + u32::from(self.sparse))
+    }
 
-// The 32 bits of information of a header-only burst.
-#[tactic(auto, unfolding(crate::specs::Fields::only_info))]
-pub(crate) fn only_info(h: Header) -> u32
-    ensures { result ≡ only_info h }
-{
-    let e = u32::from(h.extra);
-    e / 16384 * 1073741824 + e / 16 % 1024 * 1048576 + u32::from(h.user) * 16 + e % 16
+    // The 32 bits of information of a header-only burst.
+    #[tactic(auto, unfolding(crate::specs::Fields::only_info))]
+    pub(crate) fn only_info(self) -> u32
+        ensures { result ≡ only_info self }
+    {
+        let e = u32::from(self.extra);
+        e / 16384 * 1073741824 + e / 16 % 1024 * 1048576 + u32::from(self.user) * 16 + e % 16
+    }
 }

@@ -7,14 +7,14 @@ use crate::check::crc16;
 use crate::fields::Header;
 use cause::Cause;
 
-// The burst that a header announces.
+// The burst that a header announces. Both kinds are accepted: what is refused is an `Err`.
 #[derive(Clone, Copy)]
 pub enum Parsed {
     Data(Header),
     HeaderOnly(Header),
 }
 
-// The layout is a number, since row 1 of the table is for one that there is not.
+// The layout is a number: a call may name one that does not exist, which is refused as `Cause::Layout`.
 fn parse_bits(b: &[u8], layout: u32) -> Result<Parsed, Cause>
     requires { length b.now ≡ 48 }
     ensures { Parses layout b.now result }

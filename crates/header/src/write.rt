@@ -5,7 +5,7 @@ ghost use Rattle.header.specs.Frame.{frame_of, write_refusal, Writes};
 
 use crate::bit_list::push_bits;
 use crate::check::crc16;
-use crate::fields::{Header, data_info, only_info};
+use crate::fields::Header;
 use cause::Cause;
 
 // 32 bits of information, then their check under a mask.
@@ -19,7 +19,8 @@ fn put_frame(b: &mut [u8], info: u32, mask: u16)
     push_bits(back, u32::from(crc16(front) ^ mask));
 }
 
-// The table's rows for writing. The layout is a number, since row 1 is for one that there is not.
+// The table's rows for writing. The layout is a number: a call may name one that does not exist, which is refused as
+// `Cause::Layout`.
 #[tactic(auto, unfolding(crate::specs::Frame::write_refusal))]
 fn tested(h: Header, layout: u32) -> Result<(), Cause>
     ensures { number_of result ≡ write_refusal layout h }
@@ -41,9 +42,9 @@ pub fn header_bits(h: Header, layout: u32, out: &mut [u8; 48]) -> Result<(), Cau
     tested(h, layout)?;
     let masks = layout::layout(layout);
     if h.nsym == 0 {
-        put_frame(out, only_info(h), masks.crc_ho);
+        put_frame(out, h.only_info(), masks.crc_ho);
     } else {
-        put_frame(out, data_info(h), masks.crc_data);
+        put_frame(out, h.data_info(), masks.crc_data);
     }
     Ok(())
 }

@@ -30,10 +30,6 @@ nan_ne nan = nan_differs
 nan_ne (inf s) = same (inf s) (ne (inf s) (inf s)) refl tt
 nan_ne (fin s m d) = same (fin s m d) (ne (fin s m d) (fin s m d)) refl tt
 
-pub quotient_nan : div binary32 (of_bits binary32 0) (of_bits binary32 0) ≡ nan
-unfolding div of_bits
-quotient_nan = refl
-
 pub narrowed_nan : narrowed nan ≡ nan
 unfolding narrowed
 narrowed_nan = refl

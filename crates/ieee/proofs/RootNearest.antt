@@ -6,6 +6,7 @@ use native.Mathlib.Nat.{le_trans, le_of_eq, le_of_lt, le_antisymm, lt_irrefl, lt
 use native.Mathlib.Omega.{arith}
 use mathlib.Core.Bool.{Bool, true, false, ◌&&◌, cond, true≢false}
 use lib.Dec.{T, leb, ltb, eqb, ltb→lt, lit≤}
+use Rattle.std.proofs.lemmas.Nat.{mul-pow}
 use lib.Pow.{pow-add, pow_pos, pow_mono, pow-lt}
 use lib.IntN.{ℤ}
 use lib.Ieee.{Float, nan, inf, fin, Format, binary32, binary64, prec, emax, low, up, down, size, nearest, units, lt, fits}
@@ -22,10 +23,6 @@ use Rattle.ieee.proofs.Root.{sq_lt, isqrt_is, root_of_shaped, rooted_at}
 use Rattle.ieee.proofs.RoundNearest.{Steps, steps_of, none_between, pick, tie_even, Outside, cross, sign_of, sub_mul, even_digit, same_value, value_finite, all_in_use}
 
 -- ---- powers
-pub mul_pow : (x y j : ℕ) → (x * y) ^ j ≡ x ^ j * y ^ j
-mul_pow x y zero = pow-zero (x * y) ∙ sym (ap (λ (z : ℕ). z * y ^ 0) (pow-zero x) ∙ ap (λ (z : ℕ). 1 * z) (pow-zero y))
-mul_pow x y (suc j) = pow-suc (x * y) j ∙ ap (λ (z : ℕ). z * (x * y)) (mul_pow x y j) ∙ mul-mul-mul_comm (x ^ j) (y ^ j) x y ∙ ap (λ (z : ℕ). z * (y ^ j * y)) (sym (pow-suc x j)) ∙ ap (λ (z : ℕ). x ^ suc j * z) (sym (pow-suc y j))
-
 pub power_pos : (x j : ℕ) → 0 < x → 0 < x ^ j
 power_pos x zero h = le_of_eq (sym (pow-zero x))
 power_pos x (suc j) h = lt_of_lt_of_le (mul-pos (power_pos x j h) h) (le_of_eq (sym (pow-suc x j)))
@@ -110,9 +107,9 @@ module _ (j a b l : ℕ) (v y : Float) (W Y : ℕ) (hv : HasValue v false W l) (
   root_side : root_power j a v y * l ^ j ≡ a * (2 * l) ^ j * D ^ j
   unfolding D
   root_side =
-      ap (λ (x : ℕ). a * x * l ^ j) (mul_pow 2 (den v * den y) j)
+      ap (λ (x : ℕ). a * x * l ^ j) (mul-pow 2 (den v * den y) j)
       ∙ turn a (2 ^ j) ((den v * den y) ^ j) (l ^ j)
-      ∙ ap (λ (x : ℕ). a * x * (den v * den y) ^ j) (sym (mul_pow 2 l j))
+      ∙ ap (λ (x : ℕ). a * x * (den v * den y) ^ j) (sym (mul-pow 2 l j))
     where
       turn : (a p d l : ℕ) → a * (p * d) * l ≡ a * (p * l) * d
       turn a p d l = simp (mul_assoc, mul_comm)
@@ -138,7 +135,7 @@ module _ (j a b l : ℕ) (v y : Float) (W Y : ℕ) (hv : HasValue v false W l) (
   mid_side : mid_power j b v y * l ^ j ≡ joined ^ j * b * D ^ j
   mid_side =
       mul_right_comm (total v y ^ j) b (l ^ j)
-      ∙ ap (λ (x : ℕ). x * b) (sym (mul_pow (total v y) l j) ∙ ap (λ (x : ℕ). x ^ j) total_at ∙ mul_pow joined D j)
+      ∙ ap (λ (x : ℕ). x * b) (sym (mul-pow (total v y) l j) ∙ ap (λ (x : ℕ). x ^ j) total_at ∙ mul-pow joined D j)
       ∙ mul_right_comm (joined ^ j) (D ^ j) b
 
   module _ (L : 0 < l) where

@@ -1,4 +1,6 @@
-// The two binary formats of IEEE 754, so that what they have in common is written once.
+// The two binary formats of IEEE 754, so that what they have in common is written once. The kit's `num_traits::Float`
+// has the NaN, its test, the order and the format, but no patterns: with it this trait would still stand, over it, for
+// those and for the four constants.
 ghost use Rattle.std.specs.Prelude.{◌≡◌, ℕ, ◌*◌, ◌≤◌, not, T, Float, is_nan, refl};
 ghost use Rattle.std.specs.Float.{nan, Format, binary32, binary64};
 ghost use Rattle.std.specs.Float.Ieee.{lt, hid, ones, top, emax, fits, of_bits, to_bits};

@@ -34,7 +34,8 @@ fn narrow_bits(b: u64) -> u32
     s as u32
 }
 
-// std's `nearest_f64_to_f32_with_nan` answers the same, in 2.6 ns a call where this takes 0.9.
+// std's `nearest_f64_to_f32_with_nan` answers the same, in 2.6 ns a call where this takes 0.9: an estimate narrows
+// each of its weights, so that a refinement would take longer than it did before, which it must not.
 pub fn narrow(x: f64) -> f32
     ensures { result ≡ narrowed x }
 {

@@ -14,7 +14,8 @@ fn newton<T: Binary>(v: f64, y: f64) -> f64 {
     s + y * 0.5 * (v - s * s)
 }
 
-// t * 2^52, for a t from 1 to 2, and the nearer end for any other.
+// t * 2^52, for a t from 1 to 2, and 2^52 or 2^53 for any other. By patterns, since the answer is a difference of two:
+// over `t < 1.0` and `t > 2.0` the check finds no bound of it (tried).
 fn scaled(t: f64) -> u64
     ensures { result ≤ 2 ^ 53 }
 {

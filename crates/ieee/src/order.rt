@@ -3,6 +3,7 @@ ghost use Rattle.ieee.specs.Order.{max_of, clamp_of, abs_of, is_finite};
 
 use crate::binary::Binary;
 
+// Of two that compare equal, as 0 and -0, the first, as document 01 has it: std's `max` may answer either.
 #[tactic(auto, using(crate::proofs::Floats::nan_ne), unfolding(crate::specs::Order::max_of))]
 pub fn max<T: Binary>(x: T, y: T) -> T
     ensures { T.value result ≡ max_of (T.value x) (T.value y) }
@@ -16,6 +17,7 @@ pub fn max<T: Binary>(x: T, y: T) -> T
     x
 }
 
+// std's `clamp` asks that lo ≤ hi; this one asks nothing, since C may pass the probe any two bounds.
 #[tactic(auto, unfolding(crate::specs::Order::clamp_of))]
 pub fn clamp<T: Binary>(x: T, lo: T, hi: T) -> T
     ensures { T.value result ≡ clamp_of (T.value x) (T.value lo) (T.value hi) }

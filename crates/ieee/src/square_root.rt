@@ -50,7 +50,8 @@ fn root_pattern<T: Binary>(b: u64) -> u64
     root_parts::<T>(T::HIDDEN + b % T::HIDDEN, e + (T::LARGEST - 2))
 }
 
-// The square root of x, rounded to the nearest. std's `sqrt` is the hardware's, which is trusted; this one is proved.
+// The square root of x, rounded to the nearest. std's `sqrt` is the processor's, one more operation to take on trust:
+// nothing here rests on it, and nothing new may be trusted. This one is proved.
 pub fn sqrt<T: Binary>(x: T) -> T
     ensures { T.value result ≡ rooted T.format (T.value x) }
 {

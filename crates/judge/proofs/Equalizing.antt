@@ -3,6 +3,7 @@
 use Prim.Native.Nat.{ℕ, ◌+◌, ◌*◌, ◌<◌}
 use mathlib.Core.Path.{◌≡◌, ap, ap₂}
 use mathlib.Core.List.{List, ◌++◌}
+use native.Mathlib.Nat.{zero-mul}
 use native.Mathlib.Omega.{arith}
 use lib.ListN.{length, get_or, drop, get_or-append}
 use lib.Ieee.{Float, nan}
@@ -21,14 +22,12 @@ use Rattle.equalize.specs.declared.filter.Equalized.{Equalized}
 use Rattle.equalize.specs.Answer.{Answer, Equalizes}
 use Rattle.equalize.specs.Sic.{sic_of}
 use Rattle.equalize.specs.Laws.{Alike, Same}
+use Rattle.equalize.proofs.Stages.{at_front}
 use Rattle.equalize.proofs.SicLaws.{sic_laws}
-use Rattle.judge.specs.Cells.{sample_of}
+use Rattle.judge.specs.Cells.{sample_of, estimate_in}
 use Rattle.judge.specs.Judge.{ya, ha, va, equalized, answer_of, despread}
 
 -- ---- lists that hold more than is read
-
-alike_front : (m : ℕ) (xs r : List Float) → length xs ≡ 2 * m → Alike m (xs ++ r) xs
-alike_front m xs r h j b = ap₂ complex (get_or-append xs r nan (2 * j) (omega arith)) (get_or-append xs r nan (2 * j + 1) (omega arith))
 
 same_front : (m : ℕ) (xs r : List Float) → length xs ≡ m → Same m (xs ++ r) xs
 same_front m xs r h j b = get_or-append xs r nan j (omega arith)
@@ -49,6 +48,11 @@ length_means : (dc : ℕ) (soft : List Float) (t : ℕ) → length (row_means dc
 unfolding row_means
 length_means dc soft t = length_pairs (λ j. mean_at soft (t * dc + j)) dc
 
+-- a row's estimates, read as the means of three numbers a cell
+pub channels_are : (dc : ℕ) (row : List Float) → row_means dc row 0 ≡ ha dc (estimate_in row)
+unfolding row_means ha
+channels_are dc row = cat-same dc _ _ (λ j h. let e : 0 * dc + j ≡ j = omega (arith, zero-mul dc) in ap (λ (k : ℕ). flat (mean_at row k)) e)
+
 module _ (s : Source) (gain : Float) (soft grid cells : List Float) (row : ℕ → Estimate) (t : ℕ) where
   pub length_equalized : length (equalized s gain soft grid cells row t).z ≡ 2 * s.dc
   unfolding equalized
@@ -61,8 +65,8 @@ module _ (s : Source) (gain : Float) (soft grid cells : List Float) (row : ℕ �
   equalized_by tw y h v xm vx ry rh rv rx et ey eh ev ex ex' =
       rw (et, ey, eh, ev, ex, ex')
       (sic_laws.reads s.dc (twiddles_of s.dc) gain (row_variance s.dc soft t) _ (ya s grid t) _ (ha s.dc row) _ (va s.dc gain cells row t) _ (row_means s.dc soft t)
-      (alike_front s.dc (ya s grid t) ry (length_ya s grid t)) (alike_front s.dc (ha s.dc row) rh (length_ha s.dc row))
-      (same_front s.dc (va s.dc gain cells row t) rv (length_va s.dc gain cells row t)) (alike_front s.dc (row_means s.dc soft t) rx (length_means s.dc soft t)))
+      (at_front s.dc (ya s grid t) ry (length_ya s grid t)) (at_front s.dc (ha s.dc row) rh (length_ha s.dc row))
+      (same_front s.dc (va s.dc gain cells row t) rv (length_va s.dc gain cells row t)) (at_front s.dc (row_means s.dc soft t) rx (length_means s.dc soft t)))
 
   -- by the estimates of the symbol's own cells
   pub equalized_same : (row' : ℕ → Estimate) → ((j : ℕ) → j < s.dc → row j ≡ row' j) → equalized s gain soft grid cells row t ≡ equalized s gain soft grid cells row' t
@@ -79,4 +83,4 @@ pub despread_front : (dc : ℕ) (pts : List Float) (bps : ℕ) (a : Answer Equal
 unfolding despread
 despread_front dc pts bps a r z₀ z e h =
     cat-same dc (despread pts bps (answer_of r z)) (despread pts bps a)
-    (λ j b. let q : complex_at z j ≡ complex_at a.z j = rw e.symbols (alike_front dc a.z (drop (2 * dc) z₀) h j b) in rw (q, e.result))
+    (λ j b. let q : complex_at z j ≡ complex_at a.z j = rw e.symbols (at_front dc a.z (drop (2 * dc) z₀) h j b) in rw (q, e.result))

@@ -1,6 +1,8 @@
 -- What a `Judge` holds keeps its bounds. Assumes nothing.
 use Prim.Native.Nat.{ℕ, ◌+◌, ◌*◌, ◌%◌, ◌≤◌, ◌<◌}
-use mathlib.Core.Path.{refl}
+use mathlib.Core.Path.{◌≡◌, refl}
+use mathlib.Core.Bool.{true, false}
+use Rattle.std.specs.Prelude.{Some, None}
 use native.Mathlib.Nat.{mul-le-mul}
 use native.Mathlib.Omega.{arith}
 use Rattle.seq.specs.Cat.Laws.{stretch}
@@ -10,7 +12,9 @@ use Rattle.load.specs.Fit.{ncell}
 use Rattle.judge.specs.declared.symbol.Judge.{Judge}
 use Rattle.load.specs.Fit.{places}
 use Rattle.judge.specs.Cells.{symbol_of, carrier_of}
-use Rattle.judge.specs.Symbol.{InOrder}
+use Rattle.judge.specs.declared.spreading.Spreading.{Spreading}
+use Rattle.judge.specs.Fit.{FitSpread}
+use Rattle.judge.specs.Symbol.{InOrder, soft_points}
 use Rattle.judge.proofs.Estimated.{inside, in_order}
 use Rattle.judge.proofs.Placed.{placed, row_cell, row_within, row_all, few_carriers, few_places, few_cells}
 
@@ -19,6 +23,13 @@ narrow j = few_carriers j.source j.fits.cells
 
 few_bits : (j : Judge) → j.shape.bps ≤ 6
 few_bits j = omega (arith, j.bits, j.points.now.few)
+
+-- what a spread burst's symbols are equalised by is there, and fits; another's is not
+pub equalized_with : (j : Judge) (x : Spreading) → j.spreading ≡ Some x → (j.shape.spread ≡ true) × FitSpread j.source x.spreader x.soft.now × (soft_points j.spreading ≡ x.soft.now)
+equalized_with j x e = let f = rw e at j.spreads in (f.0, f.1, rw e refl)
+
+pub unspread : (j : Judge) → j.spreading ≡ None → j.shape.spread ≡ false
+unspread j e = rw e at j.spreads
 
 -- where a data cell lies
 pub record InGrid (j : Judge) (cell : ℕ) : Type 0 where

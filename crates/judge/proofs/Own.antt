@@ -56,10 +56,3 @@ module _ (s : Source) (cells expected : List Float) where
     pub estimate_own : (f : Fitted) (rf rt : List Float) → estimate_at s ps start f rf rt cells expected cell ≡ estimate_for s ps start f rf rt (mean_at expected cell) cell
     unfolding estimate_at estimate_for
     estimate_own f rf rt = rw own_counted
-
--- two lists that expect the same of the cell
-pub estimate_same : (s : Source) (cells expected expected' : List Float) → FitCells s → (ps : List Pilot) (start : List ℕ) (f : Fitted) (rf rt : List Float) (cell : ℕ) → cell < ncell s
-    → mean_at expected cell ≡ mean_at expected' cell → estimate_at s ps start f rf rt cells expected cell ≡ estimate_at s ps start f rf rt cells expected' cell
-estimate_same s cells expected expected' fit ps start f rf rt cell h e =
-    estimate_own s cells expected fit ps start cell h f rf rt
-    ∙ (ap (λ (x : Complex). estimate_for s ps start f rf rt x cell) e ∙ sym (estimate_own s cells expected' fit ps start cell h f rf rt))

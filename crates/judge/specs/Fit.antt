@@ -1,5 +1,5 @@
 -- What estimating and judging may count on.
-use Rattle.std.specs.Prelude.{ℕ, ◌*◌, ◌≤◌, ◌≡◌, List, length, Float}
+use Rattle.std.specs.Prelude.{ℕ, ◌*◌, ◌≤◌, ◌≡◌, true, false, Option, Some, None, List, length, Float}
 use Rattle.std.proofs.Props.{props}
 use Rattle.layout.specs.declared.map.Map.{Map}
 use Rattle.layout.specs.Fit.{FitMap, FitPhases}
@@ -9,6 +9,8 @@ use Rattle.load.specs.declared.found.Source.{Source}
 use Rattle.load.specs.Fit.{ncell}
 use Rattle.spread.specs.declared.spreader.Spreader.{Spreader}
 use Rattle.est.specs.declared.estimator.Estimator.{Estimator}
+use Rattle.expect.specs.declared.Shape.{Shape}
+use Rattle.judge.specs.declared.spreading.Spreading.{Spreading}
 
 -- the data symbols begin past symbol 0, and each has dc data cells
 pub record FitCells (s : Source) : Type 0 where
@@ -44,3 +46,15 @@ pub record FitSpread (s : Source) (sp : Spreader) (soft : List Float) : Type 0 w
   pub count : sp.m ≡ s.dc
   pub twiddles : sp.tw ≡ twiddles_of s.dc
   pub long_soft : ncell s * 3 ≤ length soft
+
+-- it is there where the symbols are spread, and only there
+abbrev pub FitSpreading : Source → Shape → Option Spreading → Type 0
+FitSpreading s m (Some x) = (m.spread ≡ true) × FitSpread s x.spreader x.soft.now
+FitSpreading s m None = m.spread ≡ false
+
+FitSpread-prop : (s : Source) (sp : Spreader) (soft : List Float) → IsProp (FitSpread s sp soft)
+FitSpread-prop s sp soft = Prim.hlevel props
+
+pub FitSpreading-prop : (s : Source) (m : Shape) (o : Option Spreading) → IsProp (FitSpreading s m o)
+FitSpreading-prop s m (Some x) = Prim.hlevel (props, FitSpread-prop)
+FitSpreading-prop s m None = Prim.hlevel props

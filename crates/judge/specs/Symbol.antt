@@ -1,5 +1,5 @@
 -- The definitions of `Cells`, `Judge` and `Upto` at what a `Judge` holds.
-use Rattle.std.specs.Prelude.{ℕ, ◌+◌, ◌≤◌, ◌<◌, List, length, get_or, Float}
+use Rattle.std.specs.Prelude.{ℕ, ◌+◌, ◌≤◌, ◌<◌, Option, Some, None, List, [], length, get_or, Float}
 use Rattle.dsp.specs.declared.Complex.{Complex}
 use Rattle.load.specs.declared.pilots.Pilots.{Pilots}
 use Rattle.load.specs.Pilots.{listed}
@@ -8,6 +8,7 @@ use Rattle.est.specs.declared.estimator.Estimator.{Estimator}
 use Rattle.equalize.specs.declared.filter.Equalized.{Equalized}
 use Rattle.equalize.specs.Answer.{Answer}
 use Rattle.judge.specs.declared.estimates.Fitted.{Fitted}
+use Rattle.judge.specs.declared.spreading.Spreading.{Spreading}
 use Rattle.judge.specs.declared.symbol.Judge.{Judge}
 use Rattle.judge.specs.Cells.{estimate_for}
 use Rattle.judge.specs.Judge.{demapped, equalized}
@@ -22,6 +23,11 @@ InOrder ps g =
 abbrev pub fitted_in : Estimator → Fitted
 fitted_in e = record { w = e.window; u = e.scales; scale = e.mse_scale }
 
+-- the soft points of a spread burst: of another, `judged` asks for none
+abbrev pub soft_points : Option Spreading → List Float
+soft_points (Some x) = x.soft.now
+soft_points None = []
+
 module _ (j : Judge) where
   abbrev pub estimate_with : Complex → ℕ → Estimate
   estimate_with x cell =
@@ -30,10 +36,10 @@ module _ (j : Judge) where
   abbrev pub demapped_by : ℕ → Estimate → List Float
   demapped_by cell e = demapped j.source j.points.now.pts j.shape.bps j.grid.now j.cells.now cell e
 
-  abbrev pub equalized_by : (ℕ → Estimate) → ℕ → Answer Equalized
-  equalized_by row t = equalized j.source j.shape.gain j.soft.now j.grid.now j.cells.now row t
+  abbrev pub equalized_by : Spreading → (ℕ → Estimate) → ℕ → Answer Equalized
+  equalized_by x row t = equalized j.source j.shape.gain x.soft.now j.grid.now j.cells.now row t
 
   abbrev pub JudgedUpto : ℕ → (e a channel answer : List Float) → Type 0
   JudgedUpto n e a channel answer =
       Upto j.source j.shape (fitted_in j.estimator) (listed j.estimator.pilots) j.estimator.pilots.start.now j.estimator.rf.now j.estimator.rt.now
-      j.points.now.pts j.soft.now j.grid.now j.cells.now n e a channel answer
+      j.points.now.pts (soft_points j.spreading) j.grid.now j.cells.now n e a channel answer

@@ -1,5 +1,6 @@
 // The channel at a data cell, from all pilots but its own.
-ghost use Rattle.std.specs.Prelude.{◌≡◌, cond, ◌+◌, ◌*◌, ◌≤◌, ◌<◌, length, get_or, unwrap_or};
+ghost use Rattle.std.specs.Prelude.{◌≡◌, IfSome, cond, ◌+◌, ◌*◌, ◌≤◌, ◌<◌, eqb, length, get_or, unwrap_or};
+ghost use Rattle.std.specs.List.{position_from};
 ghost use Rattle.seq.specs.Cat.{cat};
 ghost use Rattle.load.specs.Find.{mean_at};
 ghost use Rattle.load.specs.Fit.{ncell};
@@ -12,14 +13,24 @@ use crate::Judge;
 use dsp::Complex;
 use est::Scales;
 use near::{Window, start_of};
-use soft::loud;
+use soft::{Soft, loud};
 
-// The chosen model as the estimates use it: the window, the units of distance, and the factor on the errors.
+// The chosen model as the estimates use it: the window, the units of distance, and the factor on the errors. The
+// model's `Correlations` have the units too: the definitions of this crate take them with the window, and the tables
+// apart, as the source's estimator has both.
 #[derive(Clone, Copy)]
 pub struct Fitted {
     pub w: Window,
     pub u: Scales,
     pub scale: f32,
+}
+
+// Where carrier c stands first.
+fn place_of(carriers: &[u32], c: usize) -> Option<usize>
+    ensures within { IfSome result (λ i. i < length carriers.now) }
+    ensures first { result ≡ position_from (λ p. eqb p c) 0 carriers.now }
+{
+    carriers.iter().position(|p| *p as usize == c)
 }
 
 // est.rs, `pilot_index`: which of the pilots of symbol g is that of carrier c. It reads two of their lists, and asks
@@ -30,13 +41,8 @@ pub fn pilot_index(carriers: &[u32], start: &[u32], c: usize, g: usize) -> Optio
 {
     let lo = start_of(start, g);
     let hi = start_of(start, g + 1);
-    // The number is the answer.
-    for i in lo..hi {
-        if carriers[i] as usize == c {
-            return Some(i);
-        }
-    }
-    None
+    let i = place_of(&carriers[lo..hi], c)?;
+    Some(lo + i)
 }
 
 impl Judge<'_> {
@@ -61,11 +67,13 @@ impl Judge<'_> {
     {
         let c = self.carrier_of(cell);
         let g = self.symbol_of(cell);
-        let own = self.own_index(Complex::new(out[0], out[1]), c, g);
+        let own = self.own_index(Soft::at(out, 0).mean, c, g);
         let e = self.estimator.estimate_without(c, g, own);
-        out[0] = e.h.re;
-        out[1] = e.h.im;
-        out[2] = e.mse;
+        let s = Soft {
+            mean: e.h,
+            var: e.mse,
+        };
+        s.put(out, 0);
     }
 
     // The cells of data symbol t.

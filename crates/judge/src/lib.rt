@@ -8,4 +8,5 @@ mod spreading;
 mod symbol;
 
 pub use estimates::{Fitted, pilot_index};
+pub use spreading::Spreading;
 pub use symbol::Judge;

@@ -7,17 +7,19 @@ ghost use Rattle.judge.specs.Symbol.{demapped_by};
 
 use crate::Judge;
 use demap::{Cell, demap};
-use dsp::Complex;
 use est::Estimate;
+use soft::Soft;
 
-// Estimate j of a row.
-fn estimate_in(row: &[f32], j: usize) -> Estimate
+// Estimate j of a row: it stands there as a soft point does, the error in the place of the variance. No `From`, here
+// and where a row is written: neither type is this crate's, and `est` does not know `soft`.
+pub(crate) fn estimate_in(row: &[f32], j: usize) -> Estimate
     requires { 3 * j + 2 < length row.now }
     ensures { result ≡ estimate_in row.now j }
 {
+    let s = Soft::at(row, j);
     Estimate {
-        h: Complex::new(row[3 * j], row[3 * j + 1]),
-        mse: row[3 * j + 2],
+        h: s.mean,
+        mse: s.var,
     }
 }
 

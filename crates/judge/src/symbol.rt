@@ -1,31 +1,32 @@
 // What the data symbols of a burst are judged by, and one of them judged.
-ghost use Rattle.std.specs.Prelude.{◌≡◌, ◌*◌, ◌≤◌, true, length};
+ghost use Rattle.std.specs.Prelude.{◌≡◌, ◌*◌, ◌≤◌, length};
 ghost use Rattle.load.specs.Fit.{ncell, places};
-ghost use Rattle.judge.specs.Fit.{FitSpread, Fits, Fits-prop};
+ghost use Rattle.judge.specs.Fit.{FitSpreading, FitSpreading-prop, Fits, Fits-prop};
 
+use crate::spreading::Spreading;
 use est::Estimator;
 use expect::Shape;
 use load::Source;
 use points::Points;
-use spread::Spreader;
 
-// Where the cells lie and how they were sent, the estimator, the points that likelihoods are about, what spreads a
-// symbol, the soft points of a spread burst, and what was received: the grid, and the variances of its data cells.
-// What bounds a method's own arguments stays a clause: t is a data symbol of the grid, `cell` a data cell, a row has
-// three numbers for each cell of a symbol.
-#[derive(Clone, Copy)]
+// Where the cells lie and how they were sent, the estimator, the points that likelihoods are about, what a spread
+// burst's symbols are equalised by, and what was received: the grid, and the variances of its data cells.
+// Its methods take t, a data symbol, and the symbol's row, three numbers a cell, as two parameters: `estimate_row`
+// writes the row, so that a struct of both would have to promise that it still holds the caller's list; and one for the
+// steps that only read it would hold all of this besides, to reach dc, gain and points. What bounds t, a cell's number
+// and the lists that are lent is a clause of each: they are one call's.
+#[derive(Drop)]
 pub struct Judge<'a> {
     pub source: Source,
     pub shape: Shape,
     pub estimator: Estimator<'a>,
     pub points: &'a Points,
-    pub spreader: &'a Spreader,
-    pub soft: &'a [f32],
+    pub spreading: Option<Spreading<'a>>,
     pub grid: &'a [f32],
     pub cells: &'a [f32],
     ghost fits: { Fits source estimator } by { Fits-prop source estimator },
     ghost bits: { points.now.bps ≡ shape.bps },
-    ghost spreads: { shape.spread ≡ true → FitSpread source spreader.now soft.now },
+    ghost spreads: { FitSpreading source shape spreading } by { FitSpreading-prop source shape spreading },
     ghost in_grid: { 2 * places source ≤ length grid.now },
     ghost in_cells: { ncell source ≤ length cells.now },
 }
@@ -51,10 +52,9 @@ impl Judge<'_> {
         self.estimate_row(t, row);
         let out_at = t * v;
         let out = &mut answer[out_at..out_at + v];
-        if self.shape.spread {
-            self.despread_row(t, row, out);
-            return;
+        match &self.spreading {
+            Some(s) => self.despread_row(s, t, row, out),
+            None => self.demap_row(t, row, out),
         }
-        self.demap_row(t, row, out);
     }
 }

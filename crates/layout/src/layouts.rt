@@ -2,8 +2,8 @@
 use crate::pattern::Pattern;
 
 // What differs between the numerologies, as far as the path of a burst reads it. That a layout fits (`FitLayout`, and
-// `FitSizes` in it) is a clause and no ghost field: `layout_of` and `map_of` are plain records of numbers, and with a
-// ghost field each of them would have to carry its proof.
+// `FitSizes` in it) is a clause and no ghost field: the language refuses `..NORMAL` of a struct that has one, so that
+// seven layouts would be written out in full, and the definitions' records of numbers would each carry a proof.
 #[derive(Clone, Copy)]
 pub struct Layout {
     // FFT length and cyclic prefix, samples at 8 kHz.

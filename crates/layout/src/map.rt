@@ -7,8 +7,11 @@ use crate::layouts::Layout;
 use crate::pattern::Pattern;
 
 // Symbol 0 is all known, the header's symbols (1..hdr_end) have the robust pattern, the data symbols the burst's own.
-// Of the layout it holds what is read for each cell. `FitMap` is a clause and no ghost field, as `FitLayout` is of a
-// layout; the bounds of a carrier's and a symbol's number beside it are each call's own.
+// Of the layout it holds what is read for each cell. `FitMap` is a clause and no ghost field: since a layout has none
+// (layouts.rt), `map_of` would take a proof of it wherever a definition names a map. The bounds of a carrier's and a
+// symbol's number beside it are each call's own. A cell is two numbers, its carrier c and its symbol g, in the
+// source's order, and no struct of both, here and in the crates above: a loop keeps the one and counts the other, and
+// each body reads them apart.
 #[derive(Clone, Copy)]
 pub struct Map {
     pub nc: usize,

@@ -23,8 +23,9 @@ impl Layout {
         1 + self.hdr_syms
     }
 
-    // The source's `Pilots`, robust or sparse, is a bit here and in the functions that hand it on: the header has it as
-    // one, and the C interface passes it as one.
+    // `sparse` stands for the source's enum `Pilots` here and in all that hand it on: the header's field and C's
+    // parameter are this bit, the definitions are over it, and an enum would be made of it at each entry for two
+    // choices, this one and that of the grid of a burst's models (crate `model`, `fd_grid`).
     #[tactic(auto, unfolding(crate::specs::Sizes::pattern_of))]
     pub fn pattern(self, sparse: bool) -> Pattern
         ensures { result ≡ pattern_of self sparse }

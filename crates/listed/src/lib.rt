@@ -12,7 +12,8 @@ use load::{Pilot, put};
 pub use single::Ask;
 use single::single;
 
-// By all pilots of the list. w and pf are lent to work in: two numbers and three numbers a pilot.
+// By all pilots of the list. w and pf are lent to work in: two numbers and three numbers a pilot. They are two
+// parameters: whole.rt of refine says why.
 pub fn estimate(ps: &[Pilot], a: Ask, w: &mut [u32], pf: &mut [f32]) -> Estimate
     requires { Askable a ps.now (length w.old) (length pf.old) }
     ensures { result ≡ by_all a ps.now }

@@ -21,13 +21,9 @@ fn with_pilots(a: Ask, ps: &Pilots) -> Estimate
     requires { May a × OnGrid ps.now a.setting.l.nc a.setting.ng }
     ensures { result ≡ by_all a (listed ps.now) }
 {
-    // 3 3: fd[2] of the robust grid and tm[2].
-    let m = Model {
-        fd: 3,
-        tm: 3,
-        scale: 1.0,
-    };
-    let (f, t) = fit(a.setting, m);
+    // The model before one is chosen: 3 3 stands for fd[2] of the robust grid and tm[2].
+    let (f, t) = fit(a.setting, Model::NONE);
+    // By its fields: judging.rt of refine says why.
     let e = Estimator {
         pilots: *ps,
         rf: t.rf(),
@@ -40,8 +36,8 @@ fn with_pilots(a: Ask, ps: &Pilots) -> Estimate
     e.estimate(a.c, a.g)
 }
 
-// n pilots: carriers from 0 on, symbols from n on, three numbers a pilot. n stands beside the lists, which are lent
-// with room to spare.
+// n pilots: carriers from 0 on, symbols from n on, three numbers a pilot. n stands beside the lists, which are the
+// caller's work area, with room to spare.
 pub fn single(n: usize, a: Ask, w: &[u32], pf: &[f32]) -> Estimate
     requires { InLists a n w.now pf.now }
     ensures { result ≡ by_all a (records_in n w.now pf.now) }

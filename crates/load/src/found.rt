@@ -4,11 +4,11 @@ ghost use Rattle.load.specs.Facts.{fit_fact};
 
 use dsp::Complex;
 use layout::Map;
-use soft::loud;
+use soft::{Soft, loud};
 
 // A value and the variance of `y - h * x`: of a known cell, or of a data cell whose expected value says enough. An
-// enum in place of the closure's Option, as the project's scope has it: what is proved of a cell's own pilot tells a
-// soft value from a known one.
+// enum where the source has an Option, as document 01 has it: what is proved of a cell's own pilot tells a soft value
+// from a known one.
 #[derive(Clone, Copy)]
 pub enum Found {
     Known(Complex, f32),
@@ -29,7 +29,9 @@ pub struct Source {
 }
 
 // What a burst's pilots are loaded from: the numbers above, the grid, the variances of its carriers and of its data
-// cells, and the cells' expected values.
+// cells, and the cells' expected values. Grid and variances are fields, as they are of refine's `BurstGrid`: a struct
+// of the three would spare two lines where a loader is made and put one more name into each path to them in a clause.
+// refine's `Heard` and `judge::Judge` read no `sigma`.
 #[derive(Clone, Copy)]
 pub struct Loader<'a> {
     pub source: Source,
@@ -51,10 +53,9 @@ impl Loader<'_> {
         ensures { result ≡ soft_cell self.now.source self.now.cells.now self.now.expected.now cell Found.Blank }
     {
         let s = self.source;
-        let e = self.expected;
-        let x = Complex::new(e[3 * cell], e[3 * cell + 1]);
-        if loud(x, s.es) {
-            return Found::Soft(x, self.cells[cell] + s.p_h * e[3 * cell + 2]);
+        let x = Soft::at(self.expected, cell);
+        if loud(x.mean, s.es) {
+            return Found::Soft(x.mean, self.cells[cell] + s.p_h * x.var);
         }
         Found::Blank
     }
@@ -72,7 +73,7 @@ impl Loader<'_> {
         if g < m.hdr_end {
             return Found::Blank;
         }
-        let cell = (g - m.hdr_end) * s.dc + m.cell_index(g, c);
+        let cell = (g - m.hdr_end) * s.dc + m.cell_index(c, g);
         self.soft_at(cell)
     }
 }

@@ -2,11 +2,12 @@
 ghost use Rattle.std.specs.Prelude.{◌≡◌, ◌*◌, length};
 
 use crate::pilot::Pilot;
-use dsp::Complex;
+use soft::Soft;
 
 // est.rs, `Estimator`, its `pilots` and `start`: carriers, symbols, three numbers a pilot (re, im, variance), and
 // where each symbol's pilots start. The work area is lent as one list of whole numbers and one of floats, so a
-// pilot's numbers stand side by side and not in a `Pilot`.
+// pilot's numbers stand side by side and not in a `Pilot`. That they lie on a grid, and so are at most 118,156, is a
+// clause (`OnGrid`) of what has the grid at hand, or that number alone.
 #[derive(Clone, Copy)]
 pub struct Pilots<'a> {
     pub c: &'a [u32],
@@ -48,11 +49,12 @@ impl<'a> Pilots<'a> {
         requires { i < length self.now.c.now }
         ensures { result ≡ get_or (listed self.now) i nothing }
     {
+        let s = Soft::at(self.f, i);
         Pilot {
             c: self.c[i],
             g: self.g[i],
-            h: Complex::new(self.f[3 * i], self.f[3 * i + 1]),
-            var: self.f[3 * i + 2],
+            h: s.mean,
+            var: s.var,
         }
     }
 }

@@ -6,6 +6,7 @@ ghost use Rattle.load.specs.Work.{stored_pf, stored_w, Pushes};
 use crate::found::Found;
 use crate::pilot::Pilot;
 use dsp::Complex;
+use soft::Soft;
 
 // The least-squares sample y / x and its variance v / |x|².
 #[tactic(auto, unfolding(crate::specs::Load::pilot_of))]
@@ -24,18 +25,20 @@ pub fn pilot_of(c: usize, g: usize, y: Complex, x: Complex, v: f32) -> Pilot
 }
 
 // Pilot i: its carrier at i, its symbol at n + i, its three numbers from 3 i on. Two lists of numbers and no list of
-// `Pilot`: the work area that the C interface lends is one list of u32 and one of f32.
+// `Pilot`: the work area that document 01 lends is one list of u32 and one of f32. They are two parameters, here
+// and in rows.rt: whole.rt of refine says why.
 #[tactic(auto, unfolding(crate::specs::Work::stored_w, crate::specs::Work::stored_pf))]
 pub fn put(p: Pilot, n: usize, i: usize, w: &mut [u32], pf: &mut [f32]) -> usize
     requires { (i < n) × (2 * n ≤ length w.old) × (3 * n ≤ length pf.old) }
     ensures { (result ≡ i + 1) × (w.new ≡ stored_w n i p w.old) × (pf.new ≡ stored_pf i p pf.old) }
 {
-    let h = p.h;
+    let s = Soft {
+        mean: p.h,
+        var: p.var,
+    };
     w[i] = p.c;
     w[n + i] = p.g;
-    pf[3 * i] = h.re;
-    pf[3 * i + 1] = h.im;
-    pf[3 * i + 2] = p.var;
+    s.put(pf, i);
     i + 1
 }
 

@@ -9,7 +9,8 @@ use crate::push::push;
 use dsp::Complex;
 
 impl Loader<'_> {
-    // The pilots of symbol g, after those of the symbols before it. A carrier is known by its number.
+    // The pilots of symbol g, after those of the symbols before it. By number: a cell is found by those of its carrier
+    // and symbol.
     fn row(&self, g: usize, w: &mut [u32], pf: &mut [f32])
         requires { Room self.now.source self.now.grid.now w.old pf.old × (g < self.now.source.ng) × Upto self.now.source self.now.grid.now (found_at self.now.source self.now.sigma.now self.now.cells.now self.now.expected.now) g w.old pf.old }
         ensures { Upto self.now.source self.now.grid.now (found_at self.now.source self.now.sigma.now self.now.cells.now self.now.expected.now) (g + 1) w.new pf.new }
@@ -26,8 +27,8 @@ impl Loader<'_> {
         w[2 * n + g + 1] = np as u32;
     }
 
-    // The pilots of a burst, symbol by symbol, each known by its number: carriers from 0 on, symbols from ng * nc on,
-    // starts from 2 * ng * nc on; how many pilots there are.
+    // The pilots of a burst, symbol by symbol, and how many there are. In w their carriers stand from place 0 on, their
+    // symbols from ng * nc on, and the symbols' starts from 2 * ng * nc on; in pf their numbers.
     pub fn load(&self, w: &mut [u32], pf: &mut [f32]) -> usize
         requires { Room self.now.source self.now.grid.now w.old pf.old }
         ensures { Loads self.now.source self.now.grid.now (found_at self.now.source self.now.sigma.now self.now.cells.now self.now.expected.now) w.new pf.new result }

@@ -11,6 +11,6 @@ e_30 = from_bits binary64 0x39b4_484b_feeb_c2a0
 abbrev pub ten : Float
 ten = from_bits binary64 0x4024_0000_0000_0000
 
--- f64::INFINITY, as the code makes it
+-- f64::INFINITY, as the quotient that it is
 abbrev pub infinity : Float
 infinity = one64 ⊘ zero64

@@ -6,5 +6,5 @@ mod trial;
 mod values;
 
 pub use select::{Model, select_model};
-pub use trial::{Setting, Tried, score};
+pub use trial::{Setting, Trial, Tried, score};
 pub use values::{fd_value, numerology, tm_value, window};

@@ -1,11 +1,11 @@
 // The best of nine models.
-ghost use Rattle.std.specs.Prelude.{◌≡◌, ◌<◌};
+ghost use Rattle.std.specs.Prelude.{◌≡◌};
 ghost use Rattle.load.specs.Pilots.{listed};
 ghost use Rattle.model.specs.Values.{FitModels};
 ghost use Rattle.model.specs.Score.{Fit};
-ghost use Rattle.model.specs.Select.{scale_of, better, next, select_model};
+ghost use Rattle.model.specs.Select.{scale_of, select_model};
 
-use crate::trial::{Setting, Tried, score};
+use crate::trial::{Setting, Trial, Tried, score};
 use crate::values::{fd_value, tm_value};
 use load::Pilots;
 
@@ -17,6 +17,14 @@ pub struct Model {
     pub fd: u32,
     pub tm: u32,
     pub scale: f32,
+}
+
+impl Model {
+    pub const NONE: Model = Model {
+        fd: 3,
+        tm: 3,
+        scale: 1.0,
+    };
 }
 
 // The smallest residual so far, and whose it is.
@@ -34,49 +42,72 @@ fn scale(t: Tried) -> f32
     ieee::narrow(ieee::clamp((t.r - t.v) / ieee::max(t.m, 1e-30), 1.0, 10.0))
 }
 
-#[tactic(auto, unfolding(crate::specs::Select::better))]
-fn better(b: BestModel, t: Tried, i: u32, j: u32) -> BestModel
-    ensures { result ≡ better i j t b }
-{
-    if t.r < b.r {
-        let model = Model {
-            fd: i,
-            tm: j,
-            scale: scale(t),
-        };
-        return BestModel { r: t.r, model };
+impl BestModel {
+    ghost use Rattle.std.specs.Prelude.{◌≡◌};
+    ghost use Rattle.model.specs.Select.{better};
+
+    #[tactic(auto, unfolding(crate::specs::Select::better))]
+    fn better(self, t: Tried, i: u32, j: u32) -> BestModel
+        ensures { result ≡ better i j t self }
+    {
+        if t.r < self.r {
+            let model = Model {
+                fd: i,
+                tm: j,
+                scale: scale(t),
+            };
+            return BestModel { r: t.r, model };
+        }
+        self
     }
-    b
 }
 
-// Model t of the nine, fd outside and tm inside.
-#[tactic(auto, unfolding(crate::specs::Select::tried, crate::specs::Select::next))]
-fn next(ps: &Pilots, s: Setting, t: u32, b: BestModel) -> BestModel
-    requires { Fit s ps.now × FitModels s.l × (t < 9) }
-    ensures { result ≡ next s (listed ps.now) ps.now.start.now t b }
-{
-    let i = t / 3;
-    let j = t % 3;
-    let fd = fd_value(s.l, s.sparse, i);
-    let tm = tm_value(s.l, j);
-    better(b, score(ps, s, fd, tm), i, j)
+impl Trial<'_> {
+    ghost use Rattle.std.specs.Prelude.{◌≡◌};
+    ghost use Rattle.load.specs.Pilots.{listed};
+    ghost use Rattle.model.specs.Select.{tried, next, select_model};
+
+    // Model t of the nine, fd outside and tm inside.
+    pub fn tried(&self, t: u32) -> Tried
+        ensures { result ≡ tried self.now.setting (listed self.now.pilots) self.now.pilots.start.now t }
+    {
+        let s = self.setting;
+        let fd = fd_value(s.l, s.sparse, t / 3);
+        let tm = tm_value(s.l, t % 3);
+        score(&self.pilots, s, fd, tm)
+    }
+
+    #[tactic(auto, unfolding(crate::specs::Select::next))]
+    fn next(&self, t: u32, b: BestModel) -> BestModel
+        ensures { result ≡ next self.now.setting (listed self.now.pilots) self.now.pilots.start.now t b }
+    {
+        b.better(self.tried(t), t / 3, t % 3)
+    }
+
+    // The first of the nine with the smallest residual. A model is known by its number, from 0 on.
+    pub fn select_model(&self) -> Model
+        ensures { result ≡ select_model self.now.setting (listed self.now.pilots) self.now.pilots.start.now }
+    {
+        // From infinity, as the source: a residual not below it is no model's.
+        let mut best = BestModel {
+            r: f64::INFINITY,
+            model: Model::NONE,
+        };
+        for t in 0..9 {
+            best = self.next(t, best);
+        }
+        best.model
+    }
 }
 
-// The first of the nine with the smallest residual. A model is known by its number, from 0 on.
+// Of these pilots.
 pub fn select_model(ps: &Pilots, s: Setting) -> Model
     requires { Fit s ps.now × FitModels s.l }
     ensures { result ≡ select_model s (listed ps.now) ps.now.start.now }
 {
-    let mut best = BestModel {
-        r: 1.0 / 0.0,
-        model: Model {
-            fd: 3,
-            tm: 3,
-            scale: 1.0,
-        },
+    let trial = Trial {
+        pilots: *ps,
+        setting: s,
     };
-    for t in 0..9 {
-        best = next(ps, s, t, best);
-    }
-    best.model
+    trial.select_model()
 }

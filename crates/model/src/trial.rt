@@ -2,8 +2,9 @@
 ghost use Rattle.std.specs.Prelude.{◌≡◌, ◌<◌, ◌≤◌, length};
 ghost use Rattle.load.specs.Pilots.{listed};
 ghost use Rattle.est.specs.Model.{Modelled};
-ghost use Rattle.model.specs.Values.{numerology_of};
-ghost use Rattle.model.specs.Score.{Fit, stride_of, turns_of, added, add_pilot, summed, tried_of};
+ghost use Rattle.model.specs.Facts.{models_fact};
+ghost use Rattle.model.specs.Values.{numerology_of, FitModels};
+ghost use Rattle.model.specs.Score.{Fit, stride_of, add_pilot, summed, tried_of};
 
 use crate::values::{numerology, window};
 use est::{Estimate, Estimator};
@@ -11,7 +12,8 @@ use layout::Layout;
 use load::{Pilot, Pilots};
 
 // What a burst's models are tried with: its layout, whether its pilots are sparse, its symbols, how many pilots an
-// estimate may use, the channel's power.
+// estimate may use, the channel's power. `sparse` is a bit where the source has an enum, `Pilots`: C passes it as one,
+// and it is read in one place, `fd_grid`, whose definition is over a bit.
 #[derive(Clone, Copy)]
 pub struct Setting {
     pub l: Layout,
@@ -19,6 +21,16 @@ pub struct Setting {
     pub ng: usize,
     pub k: usize,
     pub p_h: f32,
+}
+
+// What is tried: the burst's pilots under its setting, on whose grid they lie, and each model of whose layout is one
+// that `set_model` may be asked for.
+#[derive(Clone, Copy)]
+pub struct Trial<'a> {
+    pub pilots: Pilots<'a>,
+    pub setting: Setting,
+    ghost fit: { Fit setting pilots },
+    ghost models: { FitModels setting.l } by { models_fact setting.l },
 }
 
 // The squared distance of pilots from their estimates, their variances, and the estimates' errors.
@@ -36,26 +48,21 @@ fn stride(np: usize) -> usize
     (np / 160).max(1)
 }
 
-// How many pilots a model is tried on.
-#[tactic(auto, using(crate::proofs::Strides::stride_pos, crate::proofs::Strides::stride_most), unfolding(crate::specs::Score::turns_of))]
-fn turns(np: usize) -> usize
-    requires { np ≤ 118156 }
-    ensures { result ≡ turns_of np }
-{
-    let s = stride(np);
-    (np + s - 1) / s
-}
+impl Tried {
+    ghost use Rattle.std.specs.Prelude.{◌≡◌};
+    ghost use Rattle.model.specs.Score.{added};
 
-// A pilot and its estimate more.
-#[tactic(auto, unfolding(crate::specs::Score::added))]
-fn add(t: Tried, e: Estimate, p: Pilot) -> Tried
-    ensures { result ≡ added e p t }
-{
-    let d = e.h - p.h;
-    Tried {
-        r: t.r + std::num::f32_to_f64_with_nan(d.norm_sqr()),
-        v: t.v + std::num::f32_to_f64_with_nan(p.var),
-        m: t.m + std::num::f32_to_f64_with_nan(e.mse),
+    // A pilot and its estimate more.
+    #[tactic(auto, unfolding(crate::specs::Score::added))]
+    fn with(self, e: Estimate, p: Pilot) -> Tried
+        ensures { result ≡ added e p self }
+    {
+        let d = e.h - p.h;
+        Tried {
+            r: self.r + std::num::f32_to_f64_with_nan(d.norm_sqr()),
+            v: self.v + std::num::f32_to_f64_with_nan(p.var),
+            m: self.m + std::num::f32_to_f64_with_nan(e.mse),
+        }
     }
 }
 
@@ -67,22 +74,21 @@ fn add_pilot(e: &Estimator, i: usize, t: Tried) -> Tried
 {
     let p = e.pilots.pilot(i);
     let others = e.estimate_excl(p.c as usize, p.g as usize, Some(i));
-    add(t, others, p)
+    t.with(others, p)
 }
 
-// Every stride-th pilot: turn j is at the pilot of number j * stride.
+// Every stride-th pilot.
 fn sum_pilots(e: &Estimator) -> Tried
     ensures { result ≡ summed e.now.window e.now.p_h (listed e.now.pilots) e.now.pilots.start.now e.now.scales e.now.rf.now e.now.rt.now }
 {
     let np = e.pilots.len();
-    let s = stride(np);
     let mut t = Tried {
         r: 0.0,
         v: 0.0,
         m: 0.0,
     };
-    for j in 0..turns(np) {
-        t = add_pilot(e, j * s, t);
+    for i in (0..np).step_by(stride(np)) {
+        t = add_pilot(e, i, t);
     }
     t
 }

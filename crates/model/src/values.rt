@@ -18,6 +18,7 @@ pub fn numerology(l: Layout) -> Numerology
     }
 }
 
+// Three parts of a `Setting`, as below: a whole one would ask more of a caller.
 pub fn window(l: Layout, ng: usize, k: usize) -> Window
     ensures { result ≡ window_of l ng k }
 {
@@ -30,7 +31,7 @@ pub fn window(l: Layout, ng: usize, k: usize) -> Window
     }
 }
 
-// refine.rs, `Pilots::Sparse`, which C hands on as a flag.
+// refine.rs: of `Pilots::Sparse` or `Pilots::Robust`.
 #[tactic(auto, unfolding(crate::specs::Values::fd_grid))]
 fn fd_grid(l: Layout, sparse: bool) -> [f64; 3]
     ensures { result ≡ fd_grid l sparse }
@@ -46,12 +47,9 @@ fn fd_grid(l: Layout, sparse: bool) -> [f64; 3]
 pub fn fd_value(l: Layout, sparse: bool, i: u32) -> f64
     ensures { result ≡ fd_value l sparse i }
 {
-    if i < 3 {
-        let grid = fd_grid(l, sparse);
-        return grid[i as usize];
-    }
+    let grid = fd_grid(l, sparse);
     let robust = l.fd;
-    robust[2]
+    grid.get(i as usize).copied().unwrap_or(robust[2])
 }
 
 // Delay span of index j, and past the end the last.
@@ -60,8 +58,5 @@ pub fn tm_value(l: Layout, j: u32) -> f64
     ensures { result ≡ tm_value l j }
 {
     let grid = l.tm;
-    if j < 3 {
-        return grid[j as usize];
-    }
-    grid[2]
+    grid.get(j as usize).copied().unwrap_or(grid[2])
 }

@@ -1,5 +1,5 @@
 -- Laws of the definitions, for the proofs here and in the crates above.
-pub mod Patterns
+pub mod Offsets
 pub mod Sorting
 pub mod Cut
 pub mod Places

@@ -23,11 +23,7 @@ fn fraction(i: u32) -> f32 {
 }
 
 fn grid() -> [f32; 650] {
-    let mut g = [0.0f32; 650];
-    for (i, v) in g.iter_mut().enumerate() {
-        *v = fraction(i as u32);
-    }
-    g
+    std::array::from_fn(|i| fraction(i as u32))
 }
 
 // Bit i sits at one of cell j's slots.
@@ -44,20 +40,20 @@ fn belief(i: u32) -> f32 {
     if m / 16 % 2 == 0 { v } else { -v }
 }
 
-fn prior(i: usize, j: usize) -> f32
+fn prior(i: usize, negated: Option<usize>) -> f32
     requires { i < 48 }
 {
     let v = belief(i as u32);
-    if is_own(i, j) { -v } else { v }
+    if negated.is_some_and(|j| is_own(i, j)) {
+        -v
+    } else {
+        v
+    }
 }
 
-// The priors, those of cell j's own bits negated; of none where j is 12.
-pub fn priors(j: usize) -> [f32; 48] {
-    let mut p = [0.0f32; 48];
-    for (i, v) in p.iter_mut().enumerate() {
-        *v = prior(i, j);
-    }
-    p
+// The priors, those of one cell's own bits negated, or none.
+pub fn priors(negated: Option<usize>) -> [f32; 48] {
+    std::array::from_fn(|i| prior(i, negated))
 }
 
 pub fn refined(prior: &[f32], answer: &mut [f32], channel: &mut [f32]) -> Result<Refined, Cause> {

@@ -31,60 +31,58 @@ const NONE: Count = Count {
     others: 0,
 };
 
-// `own` is no switch: it is what the test of `counts` says of the place.
-fn counted(n: Count, own: bool, x: f32, y: f32) -> Count
-    requires equal { n.equal < 100 }
-    requires differ { n.differ < 100 }
-    requires others { n.others < 100 }
-    ensures equal { result.equal ≤ n.equal + 1 }
-    ensures differ { result.differ ≤ n.differ + 1 }
-    ensures others { result.others ≤ n.others + 1 }
-{
-    let same = std::num::f32_to_bits_with_nan(x) == std::num::f32_to_bits_with_nan(y);
-    if own {
-        return Count {
-            equal: n.equal + u64::from(same),
-            differ: n.differ + u64::from(!same),
-            others: n.others,
-        };
-    }
-    Count {
-        equal: n.equal,
-        differ: n.differ,
-        others: n.others + u64::from(!same),
-    }
+fn bits(x: f32) -> u32 {
+    std::num::f32_to_bits_with_nan(x)
 }
 
-// The numbers of a and b, place by place; `own` says which are the cell's.
+// The numbers of a and b, place by place; `own` says which places are the cell's. They are two refinements' lists, of
+// two calls, and no columns of one.
 fn counts<F: Fn(usize) -> bool>(own: F, a: &[f32], b: &[f32]) -> Count
     requires callable { F.IsAlwaysCallable own }
     requires few { length a.now ≤ 48 }
-    requires same { length a.now ≡ length b.now }
     ensures equal { result.equal ≤ length a.now }
     ensures differ { result.differ ≤ length a.now }
     ensures others { result.others ≤ length a.now }
 {
     let mut n = NONE;
-    for (i, x) in a.iter().enumerate() {
-        n = counted(n, own(i), *x, b[i]);
+    for (i, (x, y)) in a.iter().zip(b).enumerate() {
+        match (own(i), bits(*x) == bits(*y)) {
+            (true, true) => n.equal += 1,
+            (true, false) => n.differ += 1,
+            (false, true) => {}
+            (false, false) => n.others += 1,
+        }
     }
     n
 }
 
-// The channel lists: three numbers a cell.
-pub fn channels(j: usize, a: &Numbers, b: &Numbers) -> Count
-    ensures equal { result.equal ≤ 36 }
-    ensures differ { result.differ ≤ 36 }
-    ensures others { result.others ≤ 36 }
-{
-    counts(|i| i / 3 == j, &a.channel, &b.channel)
+// Two refinements of the burst, and what of them is counted for cell j.
+#[derive(Clone, Copy)]
+pub struct Pair<'a> {
+    pub a: &'a Numbers,
+    pub b: &'a Numbers,
 }
 
-// The likelihoods, in bit order.
-pub fn likelihoods(j: usize, a: &Numbers, b: &Numbers) -> Count
-    ensures equal { result.equal ≤ 48 }
-    ensures differ { result.differ ≤ 48 }
-    ensures others { result.others ≤ 48 }
-{
-    counts(|i| i < 48 && is_own(i, j), &a.likelihoods, &b.likelihoods)
+impl Pair<'_> {
+    // The channel lists: three numbers a cell.
+    pub fn channels(&self, j: usize) -> Count
+        ensures equal { result.equal ≤ 36 }
+        ensures differ { result.differ ≤ 36 }
+        ensures others { result.others ≤ 36 }
+    {
+        counts(|i| i / 3 == j, &self.a.channel, &self.b.channel)
+    }
+
+    // The likelihoods, in bit order.
+    pub fn likelihoods(&self, j: usize) -> Count
+        ensures equal { result.equal ≤ 48 }
+        ensures differ { result.differ ≤ 48 }
+        ensures others { result.others ≤ 48 }
+    {
+        counts(
+            |i| i < 48 && is_own(i, j),
+            &self.a.likelihoods,
+            &self.b.likelihoods,
+        )
+    }
 }

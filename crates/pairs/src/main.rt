@@ -9,16 +9,16 @@ mod count;
 
 ghost use Rattle.std.specs.Prelude.{◌<◌};
 
-use crate::count::Numbers;
+use crate::count::{Numbers, Pair};
 use cause::Cause;
 use refine::Refined;
 use std::io;
 
 fn print_refined(rt: &impl Print, r: Refined) -> io::Result<()> {
-    let fd = r.fd;
-    let tm = r.tm;
-    let scale = std::num::f32_to_bits_with_nan(r.scale);
-    let spoilt = r.spoilt;
+    let Refined { model, spoilt } = r;
+    let fd = model.fd;
+    let tm = model.tm;
+    let scale = std::num::f32_to_bits_with_nan(model.scale);
     println!(rt; "'s priors negated: model {fd} {tm}, scale {scale:08x}, spoilt {spoilt}")
 }
 
@@ -30,21 +30,20 @@ fn print_refinement(rt: &impl Print, r: Result<Refined, Cause>) -> io::Result<()
 }
 
 // The cell whose own priors were negated, and the others.
-fn print_own(rt: &impl Print, j: usize, a: &Numbers, b: &Numbers) -> io::Result<()> {
-    let l = count::likelihoods(j, a, b);
-    let h = count::channels(j, a, b);
+fn print_own(rt: &impl Print, j: usize, pair: Pair) -> io::Result<()> {
+    let l = pair.likelihoods(j);
+    let h = pair.channels(j);
     let own = h.equal + l.equal;
     let numbers = h.others;
     let others = l.others;
-    println!(rt;
-        "  own numbers equal: {own}; other cells' that differ: {numbers} of 33 channel numbers, {others} of 44 likelihoods"
-    )
+    print!(rt; "  own numbers equal: {own}; other cells' that differ: ")?;
+    println!(rt; "{numbers} of 33 channel numbers, {others} of 44 likelihoods")
 }
 
 // Cell j, another cell's priors negated.
-fn print_neighbour(rt: &impl Print, j: usize, a: &Numbers, b: &Numbers) -> io::Result<()> {
-    let l = count::likelihoods(j, a, b);
-    let h = count::channels(j, a, b);
+fn print_neighbour(rt: &impl Print, j: usize, pair: Pair) -> io::Result<()> {
+    let l = pair.likelihoods(j);
+    let h = pair.channels(j);
     let numbers = h.differ;
     let differ = l.differ;
     println!(rt; "  of cell {j} differ: {numbers} of 3 channel numbers, {differ} of 4 likelihoods")
@@ -54,13 +53,14 @@ fn print_neighbour(rt: &impl Print, j: usize, a: &Numbers, b: &Numbers) -> io::R
 fn print_pair(rt: &impl Print, j: usize, a: &Numbers) -> io::Result<()>
     requires { j < 12 }
 {
-    let p = burst::priors(j);
+    let p = burst::priors(Some(j));
     let mut b = Numbers::ZEROS;
     let r = burst::refined(&p, &mut b.likelihoods, &mut b.channel);
     print!(rt; "cell {j}")?;
     print_refinement(rt, r)?;
-    print_own(rt, j, a, &b)?;
-    print_neighbour(rt, j ^ 1, a, &b)
+    let pair = Pair { a, b: &b };
+    print_own(rt, j, pair)?;
+    print_neighbour(rt, j ^ 1, pair)
 }
 
 fn print_pairs(rt: &impl Print, a: &Numbers) -> io::Result<()> {
@@ -72,7 +72,7 @@ fn print_pairs(rt: &impl Print, a: &Numbers) -> io::Result<()> {
 }
 
 fn main(rt: HostRuntime) -> io::Result<()> {
-    let p = burst::priors(12);
+    let p = burst::priors(None);
     let mut a = Numbers::ZEROS;
     let r = burst::refined(&p, &mut a.likelihoods, &mut a.channel);
     print!(rt; "no cell")?;

@@ -7,11 +7,12 @@ use native.Mathlib.Omega.{arith}
 use lib.ListN.{length, replicate, length-replicate}
 use lib.Ieee.{Float, nan}
 use borrow.Author.Tests.{le-leb}
+use Rattle.std.specs.Prelude.{Some}
 use Rattle.refine.specs.declared.settings.Settings.{Settings}
 use Rattle.refine.specs.Refine.{Burst}
 use Rattle.channel.specs.Channel.{Fit}
 use Rattle.table.specs.Sizes.{ncell_of, nbits_of}
-use Rattle.table.specs.Rows.{bad_symbols, room_for}
+use Rattle.table.specs.Rows.{bad_symbols, holds, room_for}
 use Rattle.table.specs.Refusals.{refusal_of}
 use Rattle.phy.specs.Channels.{work_room, refusal_within}
 use Rattle.table.proofs.Bounded.{small}
@@ -19,21 +20,22 @@ use Rattle.table.proofs.Passing.{counted, accepted_fits}
 
 -- the other two lists are long enough
 room_is : (s : Settings) (answer channel wf wu : ℕ) → nbits_of s ≤ answer → 3 * ncell_of s ≤ channel
-    → room_for s (record { answer = answer; channel = channel; wf = wf; wu = wu }) ≡ work_room s wf wu
-unfolding room_for work_room
+    → room_for s (record { answer = Some answer; channel = Some channel; wf = wf; wu = wu }) ≡ work_room s wf wu
+unfolding room_for holds work_room
 room_is s answer channel wf wu ha hc = rw (le-leb _ _ ha, le-leb _ _ hc) refl
 
 -- as long as a list can be
 abbrev longest : ℕ
 longest = 2 ^ 64 - 1
 
+-- the table is the refinement's with the longest answer and channel list
 pub same_table : (b : Burst) (prior : List Float) (wf wu : ℕ)
-    → refusal_of b prior (room_for b.settings (record { answer = longest; channel = longest; wf = wf; wu = wu })) ≡ refusal_of b prior (work_room b.settings wf wu)
+    → refusal_of b prior (room_for b.settings (record { answer = Some longest; channel = Some longest; wf = wf; wu = wu })) ≡ refusal_of b prior (work_room b.settings wf wu)
 unfolding refusal_of
 same_table b prior wf wu = go (bad_symbols b.settings) refl
   where
     go : (t : Bool) → bad_symbols b.settings ≡ t
-        → refusal_of b prior (room_for b.settings (record { answer = longest; channel = longest; wf = wf; wu = wu })) ≡ refusal_of b prior (work_room b.settings wf wu)
+        → refusal_of b prior (room_for b.settings (record { answer = Some longest; channel = Some longest; wf = wf; wu = wu })) ≡ refusal_of b prior (work_room b.settings wf wu)
     go true q = rw q refl
     go false q =
         let n = small b.settings (counted b.settings q) in

@@ -6,7 +6,8 @@ use crate::work::work_verdict;
 use cause::Cause;
 use refine::BurstGrid;
 
-// Over all pilots that a refinement of the burst loads. wf and wu are two parameters: whole.rt of refine says why.
+// Over all pilots that a refinement of the burst loads. wf and wu are two parameters, as document 01 lends them; a
+// struct of the two was tried (refine, whole.rt).
 pub fn channel_power(
     b: &BurstGrid,
     prior: &[f32],

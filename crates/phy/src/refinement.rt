@@ -7,7 +7,7 @@ use refine::{BurstGrid, Refined};
 use table::{Lent, verdict};
 
 // The answer takes the likelihoods in bit order, the channel list each cell's estimate and error; wf and wu are the
-// work area. They are four parameters: refine's whole.rt says why.
+// work area. They are four parameters, as document 01 lends them; a struct of them was tried (refine, whole.rt).
 pub fn refine(
     b: &BurstGrid,
     prior: &[f32],
@@ -21,8 +21,8 @@ pub fn refine(
         wf.old wf.new wu.old wu.new }
 {
     let lent = Lent {
-        answer: answer.len(),
-        channel: channel.len(),
+        answer: Some(answer.len()),
+        channel: Some(channel.len()),
         wf: wf.len(),
         wu: wu.len(),
     };

@@ -20,7 +20,8 @@ fn bad_place(s: Settings, carrier: usize, symbol: usize) -> bool
     carrier >= nc(s) || symbol >= l.ng(s.nsym)
 }
 
-// Of a burst that the table passes. wf and wu are two parameters: whole.rt of refine says why.
+// Of a burst that the table passes. wf and wu are two parameters, as document 01 lends them; a struct of the two was
+// tried (refine, whole.rt).
 #[tactic(auto, using(crate::proofs::Places::in_grid))]
 fn estimate_in(
     b: &BurstGrid,

@@ -8,7 +8,9 @@ use cause::Cause;
 use refine::BurstGrid;
 use table::{Lent, verdict};
 
-// wf and wu are two parameters: refine's whole.rt says why. Of them only the lengths are asked.
+// wf and wu are two parameters, as document 01 lends them; a struct of the two was tried (refine, whole.rt). Of them
+// only the lengths are asked.
+#[tactic(auto, unfolding(crate::specs::Channels::work_room, table::specs::Rows::room_for, table::specs::Rows::holds))]
 pub(crate) fn work_verdict(
     b: &BurstGrid,
     prior: &[f32],
@@ -17,10 +19,9 @@ pub(crate) fn work_verdict(
 ) -> Result<(), Cause>
     ensures { number_of result ≡ refusal_within (burst_of b.now) prior.now wf.now wu.now }
 {
-    // Answer and channel list, which it does without, are never too short.
     let lent = Lent {
-        answer: usize::MAX,
-        channel: usize::MAX,
+        answer: None,
+        channel: None,
         wf: wf.len(),
         wu: wu.len(),
     };

@@ -7,13 +7,12 @@ use native.Mathlib.Nat.{eq-or-lt_of_le, le_of_suc-le-suc}
 use native.Mathlib.Numerals.{add-one}
 use native.Mathlib.Omega.{arith}
 use lib.ListN.{length, set, get_or, drop, length-set}
-use lib.Seq.{get_or_at, get_or-set_same, get_or-set_other}
-use Rattle.std.proofs.Common.{drop-cons}
+use lib.Seq.{get_or-set_same, get_or-set_other}
 use lib.Ieee.{Float, nan}
 use Rattle.seq.specs.Loop.{for}
 use Rattle.seq.specs.Loop.Laws.{for_none, for_next}
 use Rattle.seq.specs.Tab.{tab}
-use Rattle.seq.specs.Tab.Laws.{length_tab, tab_none, tab_step, tab_end}
+use Rattle.seq.specs.Tab.Laws.{tab_none, tab_step, tab_end}
 use Rattle.ieee.specs.Num.{◌⊠◌}
 use Rattle.dsp.specs.declared.Complex.{Complex}
 use Rattle.dsp.specs.Arithmetic.{complex, scaleᶜ}
@@ -63,13 +62,6 @@ module _ (pts : List Float) (gain : Float) where
   -- the table's number i, scaled
   abbrev pub scaled_at : ℕ → Float
   scaled_at i = get_or pts i nan ⊠ gain
-
-  -- what is still to be written is the table's
-  pub unread : (k : ℕ) (l : List Float) → k < length pts → l ≡ tab k scaled_at ++ drop k pts → get_or l k nan ⊠ gain ≡ scaled_at k
-  unread k l h e =
-      rw e
-      (ap (λ (t : List Float). get_or (tab k scaled_at ++ t) k nan ⊠ gain) (drop-cons pts k nan h)
-      ∙ ap (λ (x : Float). x ⊠ gain) (get_or_at (tab k scaled_at) (get_or pts k nan) (drop (suc k) pts) nan k (length_tab scaled_at k)))
 
   written : (n : ℕ) → 2 * n ≤ length pts → after n ≡ tab (2 * n) scaled_at ++ drop (2 * n) pts
   unfolding after scaleᶜ

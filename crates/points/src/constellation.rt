@@ -3,12 +3,14 @@ ghost use Rattle.points.specs.Constellation.{bps_of, points_of, corner_of, qpsk_
 
 use crate::table::{Points, count};
 use dsp::Complex;
+use std::f32::consts::FRAC_1_SQRT_2;
+use std::f64::consts::{FRAC_PI_4, PI};
 
 #[tactic(auto, unfolding(crate::specs::Constellation::corner_of))]
 fn corner(label: usize) -> Complex
     ensures { result ≡ corner_of label }
 {
-    let k = 0.707106781186547524400844362104849039f32;
+    let k = FRAC_1_SQRT_2;
     let b0 = label / 2 % 2;
     let b1 = label % 2;
     Complex::new(k * (1.0 - 2.0 * b0 as f32), k * (1.0 - 2.0 * b1 as f32))
@@ -28,14 +30,14 @@ fn qpsk() -> Points
 
 const GRAY: [usize; 8] = [0, 1, 3, 2, 6, 7, 5, 4];
 
-// The point m eighths of a turn past the first.
+// The point m eighths of a turn past the first. `PI / 8.0`, not FRAC_PI_8: the source's frame.rs divides, and so does
+// the definition `angle`.
 #[tactic(auto, unfolding(crate::specs::Constellation::circle_point, crate::specs::Constellation::angle))]
 fn on_circle(m: usize) -> Complex
     requires { m < 8 }
     ensures { result ≡ circle_point m }
 {
-    let a = 0.785398163397448309615660845819875721 * m as f64
-        + 3.14159265358979323846264338327950288 / 8.0;
+    let a = FRAC_PI_4 * m as f64 + PI / 8.0;
     Complex::new(
         ieee::narrow(elementary::cos(a)),
         ieee::narrow(elementary::sin(a)),
@@ -60,8 +62,8 @@ fn gray(i: usize) -> usize
     i ^ (i >> 1)
 }
 
-// The label of level i in phase and level q in quadrature, with b bits an axis: at most 3, a bound of a number and no
-// fact of a value, here and below.
+// The label of level i in phase and level q in quadrature, with b bits an axis: at most 3, a clause here and below. b
+// is what `points` passes, and a type of such numbers would be made for that call and opened here.
 #[tactic(auto, using(crate::proofs::Counts::label_shifted, crate::proofs::Counts::label_below), unfolding(crate::specs::Constellation::label_of))]
 fn label(b: usize, i: usize, q: usize) -> usize
     requires { (b ≤ 3) × (i < 2 ^ b) × (q < 2 ^ b) }
@@ -116,8 +118,8 @@ fn qam(b: usize) -> Points
     Points { bps: 2 * b, pts }
 }
 
-// By the code of a burst's header, as a number: a rule of the project has a match on the code choose among the four.
-// Codes above 3 name the last.
+// By the code of a burst's header, as a number: document 01 has a match on the code choose among the four. Codes above
+// 3 name the last.
 #[tactic(auto, using(crate::proofs::Counts::from_three), unfolding(crate::specs::Constellation::points_of))]
 pub fn points(code: u32) -> Points
     ensures { result ≡ points_of code }

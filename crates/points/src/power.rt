@@ -6,7 +6,7 @@ use crate::table::Points;
 
 impl Points {
     // Each of the 64 points times the gain: both of a point's numbers, so every number of the table.
-    #[tactic(auto, using(seq::specs::Tab::Laws::tab_none, seq::specs::Tab::Laws::tab_step, crate::proofs::Scaling::unread))]
+    #[tactic(auto, using(seq::specs::Tab::Laws::tab_none, seq::specs::Tab::Laws::tab_step, seq::specs::Tab::Laws::tab_unread))]
     pub fn scaled(&self, gain: f32) -> Points
         ensures bits { result.bps ≡ self.now.bps }
         ensures table { result.pts ≡ scaled_of self.now.pts gain }
@@ -18,7 +18,8 @@ impl Points {
         Points { bps: self.bps, pts }
     }
 
-    // The sum of the points' powers. By the index, since a point is two numbers of the flat table.
+    // The sum of the points' powers. By number: over `as_chunks::<2>()` it proves too, but there the pairs are cut to
+    // the count first, and each is read by `Complex::at(pair, 0)`, where `point` names it.
     #[tactic(auto, using(crate::proofs::Loops::loops), unfolding(crate::specs::Power::energy_turn, crate::specs::Power::energy_of))]
     pub fn energy(&self) -> f32
         ensures { result ≡ energy_of self.now.pts self.now.bps }

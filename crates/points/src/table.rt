@@ -3,8 +3,10 @@ ghost use Rattle.points.specs.Table.{point_at};
 
 use dsp::Complex;
 
-// 64 points as re, im, re, im, .., of which the first 2^bps are the constellation's and the rest are zero. The numbers
-// lie flat, since the C interface lends and takes such a table: so a point is read and written by its index.
+// 64 points as re, im, re, im, .., of which the first 2^bps are the constellation's and the rest are zero. One list of
+// numbers, since C lends such a table and the definitions read one: so a point is read and written by its index. No
+// `ArrayVec`: that is written from the front and ends at its length, while points are put at their labels in any
+// order, C lends all 128 numbers, and how many count follows from bps.
 #[derive(Clone, Copy)]
 pub struct Points {
     pub bps: usize,

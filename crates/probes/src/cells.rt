@@ -1,5 +1,5 @@
-// layout: what has no answer gives 0xFFFF or 0, a layout is a number and its pilots' pattern a flag, since C has no
-// Option and no enum with values. Numbers past 8 name the last.
+// layout: what has no answer gives 0xFFFF or 0, since C has no Option. A layout is a number, since C may pass any:
+// those past 8 name the last. `sparse` is the header's bit for the pilots' pattern, which layout's functions take.
 ghost use Rattle.std.specs.Prelude.{◌≡◌, cond, not, ◌&&◌, leb, ltb, length};
 ghost use Rattle.ieee.specs.Num.{one32};
 ghost use Rattle.layout.specs.Layouts.{layout_of};
@@ -41,6 +41,7 @@ pub fn probe_data_carrier(number: u32, sparse: bool, g: usize, j: usize) -> usiz
     m.data_carrier(g, j)
 }
 
+// C passes the symbol first here.
 pub fn probe_cell_index(number: u32, sparse: bool, g: usize, c: usize) -> usize
     ensures { result ≡ cond (ltb c (map_of (layout_of number) sparse one32).nc && not (is_pilot (map_of (layout_of number) sparse one32) c g)) (cell_index (map_of (layout_of number) sparse one32) g c) 0xFFFF }
 {
@@ -48,7 +49,7 @@ pub fn probe_cell_index(number: u32, sparse: bool, g: usize, c: usize) -> usize
     if c >= m.nc || m.is_pilot(c, g) {
         return 0xFFFF;
     }
-    m.cell_index(g, c)
+    m.cell_index(c, g)
 }
 
 pub fn probe_known(

@@ -1,5 +1,5 @@
-// points and soft: a list that does not fit is left as it was, and 0 is answered. Codes past 3 name the last
-// constellation. Numbers answer and name here, since C has no Option and no enum with values.
+// points and soft: a list that does not fit is left as it was, and 0 is answered, since C has no Option. A code is a
+// number, since C may pass any: those past 3 name the last constellation.
 ghost use Rattle.std.specs.Prelude.{◌≡◌, cond, ◌&&◌, ◌++◌, leb, length, drop};
 ghost use Rattle.dsp.specs.Arithmetic.{complex};
 ghost use Rattle.points.specs.Constellation.{points_of};
@@ -45,13 +45,8 @@ pub fn probe_mean_energy(code: u32, gain: f32) -> f32
 pub fn probe_soft_point(code: u32, gain: f32, llr: &[f32], out: &mut [f32]) -> u32
     ensures { Put (leb (points_of code).bps (length llr.now) && leb 3 (length out.old)) 3 (flat_soft (soft_point llr.now (scaled_of (points_of code).pts gain) (points_of code).bps)) out.old result out.new }
 {
-    let t = points::points(code);
-    if llr.len() < t.bps || out.len() < 3 {
-        return 0;
-    }
-    let s = soft::soft_point(llr, &t.scaled(gain));
-    put(out, &[s.mean.re, s.mean.im, s.var]);
-    1
+    let t = points::points(code).scaled(gain);
+    probe_soft_point_of(&t.pts, t.bps, llr, out)
 }
 
 // The same of a table that the caller made.
@@ -61,8 +56,7 @@ pub fn probe_soft_point_of(pts: &[f32; 128], bps: usize, llr: &[f32], out: &mut 
     if bps > 6 || llr.len() < bps || out.len() < 3 {
         return 0;
     }
-    let s = soft::soft_point(llr, &Points { bps, pts: *pts });
-    put(out, &[s.mean.re, s.mean.im, s.var]);
+    soft::soft_point(llr, &Points { bps, pts: *pts }).put(out, 0);
     1
 }
 

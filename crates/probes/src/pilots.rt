@@ -1,5 +1,5 @@
 // load: a list that is too short, or more symbols than a burst has, gives 0, since C has no Option, and leaves the work
-// lists as they were.
+// lists as they were. C hands over grid, sigma, cells and expected apart.
 ghost use Rattle.std.specs.Prelude.{◌≤◌};
 ghost use Rattle.load.specs.Fit.{Room};
 ghost use Rattle.probes.specs.Loading.{Small, Sourced, Long, Misses, Loading};
@@ -7,8 +7,8 @@ ghost use Rattle.probes.specs.Loading.{Small, Sourced, Long, Misses, Loading};
 use layout::Map;
 use load::{Loader, Source};
 
-// Layout by number, sparse pilots, the data pilots' gain, data symbols, the reference symbol's boost, the channel's
-// mean power, the points' mean energy.
+// Layout by number, since C may pass any, sparse pilots, the data pilots' gain, data symbols, the reference symbol's
+// boost, the channel's mean power, the points' mean energy.
 #[repr(C)]
 #[derive(Clone, Copy)]
 pub struct LoadSettings {

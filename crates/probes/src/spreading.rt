@@ -1,5 +1,6 @@
 // spread: what is past the m complex numbers is left as it was, and all of it where m does not fit: 0 says so, since C
-// has no Option. m stands beside lists that have room for more, and `inverse` is C's flag for one of two methods.
+// has no Option. m stands beside lists that have room for more, and `inverse` chooses one of two methods: C has one
+// name for both, and its parameters are known to its callers.
 ghost use Rattle.std.specs.Prelude.{◌≡◌, cond, ◌&&◌, ◌*◌, leb, length};
 ghost use Rattle.spread.specs.Spreader.{twiddles_of, forward_of, inverse_of};
 ghost use Rattle.probes.specs.Within.{Put};

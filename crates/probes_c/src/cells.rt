@@ -1,5 +1,5 @@
-// layout: what has no answer gives 0xFFFF or 0, a layout is a number and its pilots' pattern a flag, since C has no
-// Option and no enum with values. Numbers past 8 name the last.
+// layout: what has no answer gives 0xFFFF or 0, since C has no Option. A layout is a number, since C may pass any:
+// those past 8 name the last. `sparse` is the header's bit for the pilots' pattern, which layout's functions take.
 ghost use Rattle.std.specs.Prelude.{◌≡◌, cond, not, ◌&&◌, leb, ltb, length};
 ghost use Rattle.ieee.specs.Num.{one32};
 ghost use Rattle.layout.specs.Layouts.{layout_of};

@@ -1,5 +1,5 @@
-// points and soft: a list that does not fit is left as it was, and 0 is answered. Codes past 3 name the last
-// constellation. Numbers answer and name here, since C has no Option and no enum with values.
+// points and soft: a list that does not fit is left as it was, and 0 is answered, since C has no Option. A code is a
+// number, since C may pass any: those past 3 name the last constellation.
 ghost use Rattle.std.specs.Prelude.{◌≡◌, cond, ◌&&◌, ◌++◌, leb, length, drop};
 ghost use Rattle.dsp.specs.Arithmetic.{complex};
 ghost use Rattle.points.specs.Constellation.{points_of};

@@ -1,5 +1,6 @@
-// elementary: outside a function's domain the answer is a not-a-number, since C has no Option. Sine and cosine stand
-// apart, as all functions here, since C passes no closure. A gain is named by its code.
+// elementary: outside a function's domain the answer is a not-a-number, since C has no Option. Each function is a name
+// that C calls, `probe_sin` and `probe_cos` too, whose bodies differ in the function called alone. A gain's code is a
+// number, since C may pass any: one past 3 has no gain.
 ghost use Rattle.std.specs.Prelude.{◌≡◌, not, leb};
 ghost use Rattle.std.specs.Float.Ieee.{lt, le, neg};
 ghost use Rattle.elementary.specs.Constants.{zero+, unit, least, most};

@@ -44,7 +44,7 @@ some_finite zero m = refl
 some_finite (suc n) zero = refl
 some_finite (suc n) (suc m) = some_finite n m
 
--- row 7 under other priors, none of them at fault
+-- the row of cause 7 under other priors, none of them at fault
 other_priors : (g v c p q s : Bool) → q ≡ true → not g || (not v || (not c || (not p || s))) ≡ false → not g || (not v || (not c || (not q || s))) ≡ false
 other_priors true true true true q s e h = rw e h
 other_priors true true true false q s e h = absurd (true≢false h)

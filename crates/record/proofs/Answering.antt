@@ -32,7 +32,7 @@ module _ (rec : List ℕ) where
   variances_row a c =
       rw (length_tab (λ i. number_at rec (a + i)) (nc_of (settings rec)), length_tab (λ i. number_at rec (c + i)) (ncell_of (settings rec)), eq-eqb _ _ refl, eq-eqb _ _ refl) refl
 
-  -- row 6 is the first that can turn it away
+  -- the row of cause 6 is the first that can turn it away
   no_room : shape_refusal rec ≡ 0 → 6 ≡ refusal_of (burst_of rec) (prior_of rec) false
   unfolding shape_refusal refusal_of burst_of
   no_room h =

@@ -17,11 +17,11 @@ use Rattle.model.proofs.First.{in_range}
 use Rattle.refine.specs.declared.settings.Settings.{Settings}
 use Rattle.refine.specs.declared.whole.Refined.{Refined}
 use Rattle.refine.specs.Refine.{Burst, setting, pilots, starts, model, nbits, ncell, refined_of, answer_of, channel_of}
-use Rattle.std.specs.Prelude.{Result, Ok}
+use Rattle.std.specs.Prelude.{Result, Ok, Some}
 use Rattle.cause.specs.declared.Cause.{Cause}
 use Rattle.cause.specs.Causes.{cause_number}
 use Rattle.table.specs.declared.sizes.Lent.{Lent}
-use Rattle.table.specs.Rows.{room_for}
+use Rattle.table.specs.Rows.{holds, room_for}
 use Rattle.table.specs.Refusals.{lent, refusal_of}
 use Rattle.phy.specs.Entry as phy
 use Rattle.wire.specs.Bytes.{number_bytes, report_bytes}
@@ -30,15 +30,15 @@ use Rattle.record.specs.Judging.{Short, Refining, Judges}
 
 -- ---- with its own work area
 
-roomy : (s : Settings) (l : Lent) → Short s → l.answer ≡ 4086 → l.channel ≡ 2043 → l.wf ≡ 12258 → l.wu ≡ 12258 → room_for s l ≡ true
-unfolding room_for
+roomy : (s : Settings) (l : Lent) → Short s → l.answer ≡ Some 4086 → l.channel ≡ Some 2043 → l.wf ≡ 12258 → l.wu ≡ 12258 → room_for s l ≡ true
+unfolding room_for holds
 roomy s l h a c f u = rw (a, c, f, u, le-leb _ _ h.bits, le-leb _ _ h.cells, le-leb _ _ h.work) refl
 
 pub alone : (b : Burst) (prior : List Float) (r : Result Refined Cause) (answer₀ answer₁ channel₀ channel₁ wf₀ wf₁ : List Float) (wu₀ wu₁ : List ℕ)
     → Short b.settings → length answer₀ ≡ 4086 → length channel₀ ≡ 2043 → length wf₀ ≡ 12258 → length wu₀ ≡ 12258
     → phy.Refining b prior r answer₀ answer₁ channel₀ channel₁ wf₀ wf₁ wu₀ wu₁ → Refining b prior r answer₀ answer₁ channel₀ channel₁
 alone b prior r answer₀ answer₁ channel₀ channel₁ wf₀ wf₁ wu₀ wu₁ h a c f u p =
-    let e = roomy b.settings (lent answer₀ channel₀ wf₀ wu₀) h a c f u in
+    let e = roomy b.settings (lent answer₀ channel₀ wf₀ wu₀) h (ap Some a) (ap Some c) f u in
     record { number = rw e at p.number; accepted = rw e at p.accepted }
 
 -- ---- each index is a byte
@@ -47,7 +47,7 @@ low : (m : Model) → OfGrid m ⊎ (m ≡ select.model 3 3 one32) → (m.fd ≤ 
 low m (inl g) = (omega (arith, g.fd), omega (arith, g.tm))
 low m (inr e) = rw e (omega arith, omega arith)
 
-indices : (b : Burst) (prior : List Float) → ((refined_of b prior).fd ≤ 255) × ((refined_of b prior).tm ≤ 255)
+indices : (b : Burst) (prior : List Float) → ((refined_of b prior).model.fd ≤ 255) × ((refined_of b prior).model.tm ≤ 255)
 unfolding refined_of model InRange
 indices b prior = low _ (in_range (setting b) (pilots b prior) (starts b prior))
 
@@ -57,10 +57,6 @@ same_Ok : {m n : Refined} → ◌≡◌ {A = Result Refined Cause} (Ok m) (Ok n)
 same_Ok e = grind arith
 
 module _ (b : Burst) (prior : List Float) (answer₀ answer₁ channel₀ channel₁ : List Float) where
-  -- a refused burst leaves the outputs
-  pub turned_away : (cause : Cause) (out bytes : List ℕ) → cause_number cause ≡ refusal_of b prior true → Judges b prior (cause_number cause) out out bytes bytes
-  turned_away cause out bytes e = record { result = e; accepted = λ z. absurd (some_number cause z); refused = λ z. (refl, refl) }
-
   module _ (r : Result Refined Cause) (m : Refined) (q : r ≡ Ok m) (p : Refining b prior r answer₀ answer₁ channel₀ channel₁) where
     passed : refusal_of b prior true ≡ 0
     passed = sym (rw q at p.number)
@@ -68,7 +64,7 @@ module _ (b : Burst) (prior : List Float) (answer₀ answer₁ channel₀ channe
     told : m ≡ refined_of b prior
     told = same_Ok (sym q ∙ (p.accepted passed).result)
 
-    pub in_bytes : (m.fd ≤ 255) × (m.tm ≤ 255)
+    pub in_bytes : (m.model.fd ≤ 255) × (m.model.tm ≤ 255)
     in_bytes = rw told (indices b prior)
 
     -- a list written in front of an old one, whose length it kept, is the front

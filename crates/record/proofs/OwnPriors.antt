@@ -11,14 +11,14 @@ use lib.Ieee.Bits.{of_bits-fits}
 use lib.Ieee.Fits.{nan-fits, inf-fits, round-fits}
 use Rattle.ieee.specs.Narrow.{narrowed}
 use Rattle.load.specs.declared.pilot.Pilot.{Pilot}
-use Rattle.model.specs.Select.{model as triple, scale_of, select_model}
+use Rattle.model.specs.Select.{scale_of, select_model}
 use Rattle.model.specs.Laws.{FirstLeast, Chosen, Fallback}
 use Rattle.model.specs.declared.trial.Setting.{Setting}
 use Rattle.model.specs.declared.select.Model.{Model}
 use Rattle.model.proofs.First.{first_least}
 use Rattle.refine.specs.Refine.{Burst, nsym, ncell, nbits, setting, pilots, starts, model, refined_of, answer_of, channel_of}
 use Rattle.refine.specs.Independence.{OwnBit, SameCell}
-use Rattle.refine.proofs.Independence.{cell_same}
+use Rattle.refine.proofs.Independence.{same_model, cell_same}
 use Rattle.phy.proofs.OwnPriors.{same_burst}
 use Rattle.words.specs.Bytes.{word, number}
 use Rattle.wire.specs.Record.{burst_of, prior_of}
@@ -49,11 +49,6 @@ unfolding model
 scale_fits b p = selected_fits (setting b) (pilots b p) (starts b p)
 
 -- ---- six bytes are a model
-
-same_model : (m m' : Model) → m.fd ≡ m'.fd → m.tm ≡ m'.tm → m.scale ≡ m'.scale → m ≡ m'
-same_model m m' e e' e'' =
-    let parts : triple m.fd m.tm m.scale ≡ triple m'.fd m'.tm m'.scale = rw (e, e', e'') in
-    parts
 
 model_same : (b b' : Burst) (p q : List Float) → ((t : ℕ) → t < 6 → get_or (report_bytes (refined_of b p)) t 0 ≡ get_or (report_bytes (refined_of b' q)) t 0)
     → model b p ≡ model b' q

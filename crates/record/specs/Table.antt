@@ -28,8 +28,8 @@ module _ (rec : List ℕ) where
       ∷ bad_numbers s b.grid b.sigma b.cells (prior_of rec)
       ∷ []
 
-  -- Rows 4 and 5 hold for no record: its burst is read with the lengths that its fields give. Nor does row 2: both
-  -- codes have two bits.
+  -- The rows of causes 4 and 5 hold for no record: its burst is read with the lengths that its fields give. Nor does
+  -- that of cause 2: both codes have two bits.
   pub record Unreached : Type 0 where
     pub codes : bad_codes (settings rec) ≡ false
     pub grid : bad_grid (settings rec) (burst_of rec).grid ≡ false

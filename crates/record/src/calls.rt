@@ -44,7 +44,8 @@ pub fn refine_record_channel(record: &[u8], out: &mut [u8], channel: &mut [u8]) 
 pub fn refine_record(record: &[u8], out: &mut [u8]) -> Result<(), Cause>
     ensures { Answers «record».now (number_of result) out.old out.new }
 {
-    // Room for the estimates of any record.
+    // The estimates of any record, which are dropped. With `None` for the list only their bytes would not be made: the
+    // refinement writes the estimates in any case, into a list of `judge`'s, and each contract would have a case more.
     let mut channel = [0; 8172];
     refine_record_channel(record, out, &mut channel)
 }

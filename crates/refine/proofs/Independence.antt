@@ -30,7 +30,7 @@ use Rattle.refine.proofs.OwnPriors.{expected_else}
 use Rattle.refine.proofs.Elsewhere.{Same, found_else}
 use Rattle.refine.proofs.WithoutOwn.{others, made_of, made_of_others}
 
-same_model : (m m' : Model) → m.fd ≡ m'.fd → m.tm ≡ m'.tm → m.scale ≡ m'.scale → m ≡ m'
+pub same_model : (m m' : Model) → m.fd ≡ m'.fd → m.tm ≡ m'.tm → m.scale ≡ m'.scale → m ≡ m'
 same_model m m' e e' e'' =
     let parts : triple m.fd m.tm m.scale ≡ triple m'.fd m'.tm m'.scale = rw (e, e', e'') in
     parts
@@ -115,16 +115,16 @@ module _ {b : Burst} {p : List Float} {r : Refined} {answer₀ answer₁ channel
   call_answer i h =
       in_front (answer_of b p) answer₀ answer₁ (nbits b) i c.answer (unfold answer_of in rw (length_bit_order (nbits b) (slot_likelihoods b p)) h)
 
-  call_model : (r.fd ≡ (model b p).fd) × (r.tm ≡ (model b p).tm) × (r.scale ≡ (model b p).scale)
+  call_model : r.model ≡ model b p
   unfolding refined_of
-  call_model = rw c.result (refl, refl, refl)
+  call_model = rw c.result refl
 
 pub independence : Independence
 unfolding Independence
 independence b few off j hj p q same r r' answer₀ answer₁ channel₀ channel₁ answer₀' answer₁' channel₀' channel₁' c c' report =
     let m = call_model c in
     let m' = call_model c' in
-    let e = same_model (model b p) (model b q) (sym m.0 ∙ (report.fd ∙ m'.0)) (sym m.1 ∙ (report.tm ∙ m'.1)) (sym m.2 ∙ (report.scale ∙ m'.2)) in
+    let e = sym m ∙ (same_model r.model r'.model report.fd report.tm report.scale ∙ m') in
     let s = cell_same b off few j hj p q same e in
     record {
       estimate = λ t h. call_channel c j t hj h ∙ (s.estimate t h ∙ sym (call_channel c' j t hj h));

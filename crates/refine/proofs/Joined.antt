@@ -29,7 +29,7 @@ use Rattle.refine.specs.Refine.{Burst, unit, nsym, dc, ncell, nbits, source, sha
 use Rattle.refine.specs.Plan.{plan_for, unit_for}
 use Rattle.refine.specs.Front.{cell_length, Listened}
 use Rattle.refine.specs.Back.{Agrees, Symbols, Under}
-use Rattle.refine.specs.Whole.{pilots_in, starts_in, soft_in, InWork, ExactFit, Rejudged, RefinesExactly}
+use Rattle.refine.specs.Whole.{pilots_in, starts_in, soft_in, soft_heard, InWork, ExactFit, Rejudged, RefinesExactly}
 use Rattle.refine.proofs.Ready.{ready, agrees, symbols}
 
 -- ---- the pilots in the work lists
@@ -45,6 +45,9 @@ same_pilots : (p : Plan) (grid : List Float) (v : ℕ → ℕ → Found) (wf : L
 same_pilots p grid v wf wu np l =
     let few = few_loaded p.source grid v wu _ np l in
     rw (take-take (3 * np) (3 * places p.source) wf (omega (arith, few))) at l.same
+
+spread_soft : (p : Plan) (wf : List Float) → p.shape.spread ≡ true → soft_heard p wf ≡ soft_in p wf
+spread_soft p wf u = rw u refl
 
 -- ---- an unspread burst's likelihoods do not ask for soft points
 
@@ -73,13 +76,13 @@ module _ (b : Burst) (prior : List Float) (wf : List Float) (wu : List ℕ) (np 
   unfolding starts found map_of
   starts_are = rw (← e_is) l.loads.starts
 
-  soft_is : b.settings.spread ≡ true → soft_in (plan_for b.settings) wf ≡ soft_points b prior
+  soft_is : b.settings.spread ≡ true → soft_heard (plan_for b.settings) wf ≡ soft_points b prior
   unfolding soft_points slots
-  soft_is u = l.points u
+  soft_is u = spread_soft (plan_for b.settings) wf u ∙ l.points u
 
   pub rejudged : (m : Model) (a channel answer : List Float) → length a ≡ nbits b → length e ≡ 3 * ncell b
       → (m ≡ select_model (plan_for b.settings).setting (pilots_in (plan_for b.settings) np wf wu) (starts_in (plan_for b.settings) wu))
-      × Under (plan_for b.settings) m (pilots_in (plan_for b.settings) np wf wu) (starts_in (plan_for b.settings) wu) (unit b) (soft_in (plan_for b.settings) wf) b.grid b.cells e a channel answer
+      × Under (plan_for b.settings) m (pilots_in (plan_for b.settings) np wf wu) (starts_in (plan_for b.settings) wu) (unit b) (soft_heard (plan_for b.settings) wf) b.grid b.cells e a channel answer
       → Rejudged b prior m answer channel
   unfolding model estimate_under estimate channel_of slot_likelihoods
   rejudged m a channel answer ha he u =
@@ -105,19 +108,19 @@ same_unit b = refl
 module _ (b : Burst) (prior units : List Float) (p : Plan) (e : p ≡ plan_for b.settings) (answer₀ channel₀ wf₀ : List Float) (wu₀ : List ℕ) (x : ExactFit b answer₀ channel₀ wf₀ wu₀)
     (channel wf : List Float) (wu : List ℕ) (np : ℕ) (l : Listened p units prior (length answer₀) b.grid b.sigma b.cells channel wf wu np) where
   pub may_judge_loaded : (answer : List Float) → length channel ≡ length channel₀ → length answer ≡ length answer₀ → length wf ≡ length wf₀ → length wu ≡ length wu₀
-      → Agrees p × InWork p np wf wu × Symbols p.source p.shape (soft_in p wf) b.grid b.cells channel answer × (length channel ≡ cell_length p)
+      → Agrees p × InWork p np wf wu × Symbols p.source p.shape b.grid b.cells channel answer × (length channel ≡ cell_length p)
   may_judge_loaded answer hc ha hf hu =
       let r = ready b answer₀ channel₀ wf₀ wu₀ x in
       let l' : Listened (plan_for b.settings) units prior (length answer₀) b.grid b.sigma b.cells channel wf wu np = rw e at l in
       rw e (
         agrees b answer₀ channel₀ wf₀ wu₀ x,
         in_work (plan_for b.settings) b.grid _ wf wu np l'.loads r.small (rw hf r.in_wf) (rw hu r.in_wu),
-        symbols b answer₀ channel₀ wf₀ wu₀ x channel answer wf hc ha hf,
+        symbols b answer₀ channel₀ wf₀ wu₀ x channel answer hc ha,
         hc ∙ r.long_channel,
       )
 
   pub rejudged_by : (m : Model) (a channel₁ answer : List Float) → units ≡ unit_for b.settings → length a ≡ length answer₀ → length channel ≡ length channel₀
-      → (m ≡ select_model p.setting (pilots_in p np wf wu) (starts_in p wu)) × Under p m (pilots_in p np wf wu) (starts_in p wu) units (soft_in p wf) b.grid b.cells channel a channel₁ answer
+      → (m ≡ select_model p.setting (pilots_in p np wf wu) (starts_in p wu)) × Under p m (pilots_in p np wf wu) (starts_in p wu) units (soft_heard p wf) b.grid b.cells channel a channel₁ answer
       → Rejudged b prior m answer channel₁
   rejudged_by m a channel₁ answer eu ha hc u =
       let l' : Listened (plan_for b.settings) (unit b) prior (nbits b) b.grid b.sigma b.cells channel wf wu np = rw (e, eu, same_unit b, x.whole_answer) at l in
@@ -127,7 +130,7 @@ module _ (b : Burst) (prior units : List Float) (p : Plan) (e : p ≡ plan_for b
 
 pub refined_exactly : (b : Burst) (prior : List Float) (m : Model) (slots₁ answer channel : List Float) (n : ℕ) → length slots₁ ≡ nbits b → length answer ≡ nbits b → Rejudged b prior m slots₁ channel
     → answer ≡ bit_order (length slots₁) slots₁ → n ≡ spoilt_of (length answer) answer
-    → RefinesExactly b prior (record { fd = m.fd; tm = m.tm; scale = m.scale; spoilt = n }) answer channel
+    → RefinesExactly b prior (record { model = m; spoilt = n }) answer channel
 unfolding refined_of answer_of
 refined_exactly b prior m slots₁ answer channel n hs ha r e s =
     let a : answer ≡ bit_order (nbits b) (slot_likelihoods b prior) = rw (hs, r.likelihoods) at e in

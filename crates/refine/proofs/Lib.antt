@@ -1,4 +1,3 @@
-mod Hearing
 mod EachSymbol
 mod Sliced
 mod Counted

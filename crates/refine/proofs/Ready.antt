@@ -4,7 +4,7 @@ use mathlib.Core.Path.{◌≡◌, refl, ◌∙◌}
 use mathlib.Core.List.{List}
 use native.Mathlib.Nat.{mul-le-mul}
 use native.Mathlib.Omega.{arith}
-use lib.ListN.{length, take, drop, length-drop}
+use lib.ListN.{length, take}
 use lib.Seq.{length-take-le}
 use lib.Ieee.{Float}
 use Rattle.layout.specs.Layouts.{layout_of}
@@ -13,7 +13,7 @@ use Rattle.layout.specs.Sizes.{LayoutBounds, BurstBounds, pre_syms, data_carrier
 use Rattle.points.specs.Constellation.{bps_of}
 use Rattle.layout.proofs.Bounds.{bounds}
 use Rattle.points.proofs.Laws.{points_laws}
-use Rattle.load.specs.Fit.{FitSource, places}
+use Rattle.load.specs.Fit.{FitSource}
 use Rattle.load.proofs.Sources.{source_fits}
 use Rattle.est.specs.Estimate.{held_k}
 use Rattle.model.proofs.Models.{models_fit}
@@ -22,7 +22,7 @@ use Rattle.refine.specs.declared.settings.Settings.{Settings}
 use Rattle.refine.specs.Plan.{plan_for}
 use Rattle.refine.specs.Front.{cell_length, Ready}
 use Rattle.refine.specs.Back.{Agrees, Symbols}
-use Rattle.refine.specs.Whole.{soft_in, ExactFit}
+use Rattle.refine.specs.Whole.{ExactFit}
 
 held : (k : ℕ) → (1 ≤ held_k k) × (held_k k ≤ 40)
 unfolding held_k
@@ -90,14 +90,12 @@ module _ (b : Burst) (answer channel wf : List Float) (wu : List ℕ) (x : Exact
         most = (held b.settings.k).1;
       }
 
-  -- whatever channel, answer and work list hold by now
-  pub symbols : (channel₁ answer₁ wf₁ : List Float) → length channel₁ ≡ length channel → length answer₁ ≡ length answer → length wf₁ ≡ length wf
-      → Symbols (plan_for b.settings).source (plan_for b.settings).shape (soft_in (plan_for b.settings) wf₁) b.grid b.cells channel₁ answer₁
+  -- whatever channel and answer hold by now
+  pub symbols : (channel₁ answer₁ : List Float) → length channel₁ ≡ length channel → length answer₁ ≡ length answer
+      → Symbols (plan_for b.settings).source (plan_for b.settings).shape b.grid b.cells channel₁ answer₁
   unfolding map_of
-  symbols channel₁ answer₁ wf₁ hc ha hw =
+  symbols channel₁ answer₁ hc ha =
       let n : ng b - pre_syms (layout b) ≡ nsym b = omega arith in
-      let long : length (soft_in (plan_for b.settings) wf₁) ≡ cell_length (plan_for b.settings) =
-      length-take-le _ (drop (3 * places (plan_for b.settings).source) wf₁) (omega (arith, length-drop (3 * places (plan_for b.settings).source) wf₁, hw, ready.in_wf)) in
       record {
         count = refl;
         carriers = refl;
@@ -106,7 +104,6 @@ module _ (b : Burst) (answer channel wf : List Float) (wu : List ℕ) (x : Exact
         bits = (points_laws b.settings.constellation).most;
         long_grid = omega (arith, f.long_grid);
         long_cells = rw n (omega (arith, f.long_cells));
-        long_soft = rw (n, long) (omega arith);
         long_channel = rw n (omega (arith, hc, x.whole_channel));
         long_answer = rw n (omega (arith, ha, x.whole_answer));
       }

@@ -1,16 +1,25 @@
 -- The parts of the work lists that are lent on, and the chosen model as the estimates want it.
-use mathlib.Core.Path.{◌≡◌, refl}
-use mathlib.Core.List.{List}
+use Prim.Native.Nat.{◌*◌, ◌≤◌}
+use mathlib.Core.Path.{◌≡◌, refl, ◌∙◌}
+use mathlib.Core.Bool.{cond}
+use mathlib.Core.List.{List, []}
+use lib.ListN.{length}
 use lib.Ieee.{Float}
+use Rattle.std.specs.Prelude.{Option, Some, None}
+use Rattle.load.specs.declared.found.Source.{Source}
+use Rattle.load.specs.Fit.{ncell}
+use Rattle.expect.specs.declared.Shape.{Shape}
+use Rattle.judge.specs.declared.spreading.Spreading.{Spreading}
+use Rattle.judge.specs.Symbol.{soft_points}
 use Rattle.load.specs.Pilots.{OnGrid}
 use Rattle.est.specs.declared.estimator.Estimator.{Estimator}
 use Rattle.model.specs.declared.select.Model.{Model}
 use Rattle.model.specs.Values.{window_of}
 use Rattle.judge.specs.declared.estimates.Fitted.{Fitted}
-use Rattle.judge.specs.Fit.{Fits}
+use Rattle.judge.specs.Fit.{Fits, FitSpreading}
 use Rattle.refine.specs.declared.judging.Heard.{Heard}
 use Rattle.refine.specs.Refine.{fitted_of}
-use Rattle.refine.specs.Back.{Judgeable}
+use Rattle.refine.specs.Back.{Judgeable, SpreadBy}
 
 module _ (h : Heard) (channel answer : List Float) (j : Judgeable h channel answer) where
   module _ (m : Model) (f : Fitted) (e : f ≡ fitted_of h.plan.setting m) where

@@ -1,5 +1,6 @@
 -- The path as the code goes it: from the loaded pilots to the likelihoods in slot order.
-use Rattle.std.specs.Prelude.{ℕ, ◌+◌, ◌*◌, ◌≤◌, ◌≡◌, List, length, Float}
+use Rattle.std.specs.Prelude.{ℕ, ◌+◌, ◌*◌, ◌≤◌, ◌≡◌, true, false, Option, Some, None, List, length, Float}
+use Rattle.spread.specs.Spreader.{twiddles_of}
 use Rattle.load.specs.declared.pilot.Pilot.{Pilot}
 use Rattle.load.specs.declared.found.Source.{Source}
 use Rattle.load.specs.Fit.{ncell, places}
@@ -8,15 +9,16 @@ use Rattle.est.specs.declared.estimator.Estimator.{Estimator}
 use Rattle.expect.specs.declared.Shape.{Shape}
 use Rattle.model.specs.declared.select.Model.{Model}
 use Rattle.model.specs.Values.{FitModels}
-use Rattle.judge.specs.Fit.{FitCells}
-use Rattle.judge.specs.Symbol.{fitted_in}
+use Rattle.judge.specs.Fit.{FitCells, FitSpreading}
+use Rattle.judge.specs.Symbol.{fitted_in, soft_points}
+use Rattle.judge.specs.declared.spreading.Spreading.{Spreading}
 use Rattle.judge.specs.Upto.{Upto}
 use Rattle.refine.specs.declared.settings.Plan.{Plan}
 use Rattle.refine.specs.declared.judging.Heard.{Heard}
 use Rattle.refine.specs.Refine.{fitted_of, carrier_table, symbol_table}
 
 -- the lists that the symbols are judged from and into
-pub record Symbols (s : Source) (m : Shape) (soft grid cells channel answer : List Float) : Type 0 where
+pub record Symbols (s : Source) (m : Shape) (grid cells channel answer : List Float) : Type 0 where
   pub count : s.ng ≡ s.map.hdr_end + m.nsym
   pub carriers : m.dc ≡ s.dc
   pub some : 1 ≤ m.dc
@@ -24,9 +26,13 @@ pub record Symbols (s : Source) (m : Shape) (soft grid cells channel answer : Li
   pub bits : m.bps ≤ 6
   pub long_grid : 2 * places s ≤ length grid
   pub long_cells : ncell s ≤ length cells
-  pub long_soft : ncell s * 3 ≤ length soft
   pub long_channel : ncell s * 3 ≤ length channel
   pub long_answer : ncell s * m.bps ≤ length answer
+
+-- what symbols of this shape are equalised by, where they are spread
+abbrev pub SpreadBy : Shape → (soft : List Float) → Option Spreading → Type 0
+SpreadBy m soft (Some x) = (m.spread ≡ true) × (x.spreader.m ≡ m.dc) × (x.spreader.tw ≡ twiddles_of m.dc) × (x.soft.now ≡ soft)
+SpreadBy m soft None = m.spread ≡ false
 
 -- the parts of a plan are of one burst
 pub record Agrees (p : Plan) : Type 0 where
@@ -48,14 +54,15 @@ Under p m ps start pts soft grid cells e a channel answer =
 pub record Judgeable (h : Heard) (channel answer : List Float) : Type 0 where
   pub agrees : Agrees h.plan
   pub loaded : OnGrid h.pilots h.plan.source.map.nc h.plan.source.ng
-  pub symbols : Symbols h.plan.source h.plan.shape h.soft.now h.grid.now h.cells.now channel answer
+  pub symbols : Symbols h.plan.source h.plan.shape h.grid.now h.cells.now channel answer
+  pub spreading : FitSpreading h.plan.source h.plan.shape h.spreading
   pub bits : h.unit.now.bps ≡ h.plan.shape.bps
 
 abbrev pub JudgedWith : Heard → Estimator → (e a channel answer : List Float) → Type 0
 JudgedWith h r e a channel answer =
-    Upto h.plan.source h.plan.shape (fitted_in r) (listed r.pilots) r.pilots.start.now r.rf.now r.rt.now h.unit.now.pts h.soft.now h.grid.now h.cells.now
+    Upto h.plan.source h.plan.shape (fitted_in r) (listed r.pilots) r.pilots.start.now r.rf.now r.rt.now h.unit.now.pts (soft_points h.spreading) h.grid.now h.cells.now
     (h.plan.shape.nsym * h.plan.source.dc) e a channel answer
 
 abbrev pub JudgedUnder : Heard → Model → (e a channel answer : List Float) → Type 0
 JudgedUnder h m e a channel answer =
-    Under h.plan m (listed h.pilots) h.pilots.start.now h.unit.now.pts h.soft.now h.grid.now h.cells.now e a channel answer
+    Under h.plan m (listed h.pilots) h.pilots.start.now h.unit.now.pts (soft_points h.spreading) h.grid.now h.cells.now e a channel answer

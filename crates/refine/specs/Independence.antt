@@ -19,9 +19,9 @@ SameBut b j p q = (i : ℕ) → i < nbits b → (OwnBit b j i → ⊥) → get_o
 
 -- the reported model and error scale; the spoilt count may differ
 pub record SameReport (r r' : Refined) : Type 0 where
-  pub fd : r.fd ≡ r'.fd
-  pub tm : r.tm ≡ r'.tm
-  pub scale : r.scale ≡ r'.scale
+  pub fd : r.model.fd ≡ r'.model.fd
+  pub tm : r.model.tm ≡ r'.model.tm
+  pub scale : r.model.scale ≡ r'.model.scale
 
 -- the channel list's numbers 3 j to 3 j + 2, and the answer's numbers for the cell's bits
 pub record SameCell (b : Burst) (j : ℕ) (channel channel' answer answer' : List Float) : Type 0 where

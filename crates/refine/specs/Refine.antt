@@ -166,9 +166,7 @@ spoilt_of n xs = for 0 n (spoilt_turn xs) 0
 -- ---- what a call gives
 
 unfoldable pub refined_of : Burst → List Float → Refined
-refined_of b prior =
-    let m = model b prior in
-    record { fd = m.fd; tm = m.tm; scale = m.scale; spoilt = spoilt_of (nbits b) (answer_of b prior) }
+refined_of b prior = record { model = model b prior; spoilt = spoilt_of (nbits b) (answer_of b prior) }
 
 -- both work lists: nbits + 12 ng nc numbers
 abbrev pub work_length : Burst → ℕ

@@ -1,5 +1,5 @@
 -- The path as the code goes it, whole, over answer and channel list of just the burst's length.
-use Rattle.std.specs.Prelude.{ℕ, ◌+◌, ◌*◌, ◌≤◌, ◌≡◌, List, length, take, drop, Float}
+use Rattle.std.specs.Prelude.{ℕ, ◌+◌, ◌*◌, ◌≤◌, ◌≡◌, cond, List, [], length, take, drop, Float}
 use Rattle.load.specs.declared.pilot.Pilot.{Pilot}
 use Rattle.load.specs.Pilots.{Loaded, pilots}
 use Rattle.load.specs.Fit.{places}
@@ -19,6 +19,10 @@ starts_in p wu = take (p.source.ng + 1) (drop (2 * places p.source) wu)
 -- a spread burst's soft points
 abbrev pub soft_in : Plan → List Float → List Float
 soft_in p wf = take (cell_length p) (drop (3 * places p.source) wf)
+
+-- none of another burst, of which nothing reads them
+abbrev pub soft_heard : Plan → List Float → List Float
+soft_heard p wf = cond p.shape.spread (soft_in p wf) []
 
 pub record InWork (p : Plan) (np : ℕ) (wf : List Float) (wu : List ℕ) : Type 0 where
   pub loaded : Loaded (take np wu) (take np (drop (places p.source) wu)) (take (3 * np) wf) (starts_in p wu) p.source.map.nc p.source.ng np

@@ -8,5 +8,5 @@ pub fn to_bit_order(room: &mut [f32], answer: &mut [f32])
     ensures { answer.new ≡ bit_order (length answer.old) answer.old }
 {
     room.copy_from_slice(answer);
-    bits::from_slots(room, answer.len(), answer);
+    bits::from_slots(room, answer);
 }

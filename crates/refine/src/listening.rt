@@ -33,7 +33,7 @@ pub fn listen(
     let g = b.burst;
     let n = channel.len();
     let (pilots, rest) = wf.split_at_mut(3 * places_of(p.source));
-    expected(p.shape, b.unit, prior, answer, &mut rest[..n], channel);
+    expected(b, prior, answer, &mut rest[..n], channel);
     let l = Loader {
         source: p.source,
         grid: g.grid,

@@ -11,7 +11,9 @@ use points::Points;
 
 // What a burst's header and the station say of it: layout and constellation by number, data symbols, sparse pilots,
 // DFT-spread symbols, the code of the points' gain, pilots an estimate may use, the reference symbol's boost, the
-// data pilots' gain, the channel's mean power.
+// data pilots' gain, the channel's mean power. Layout, constellation and gain code are numbers: C hands over any
+// number, and the table of causes has rows for those that name nothing, which no enum could hold. sparse and spread are
+// two bits, as header.rs has them; sizes.rt of layout says why sparse is no enum.
 #[repr(C)]
 #[derive(Clone, Copy)]
 pub struct Settings {
@@ -27,8 +29,9 @@ pub struct Settings {
     pub p_h: f32,
 }
 
-// The same as the steps of the path take them. That the parts agree (`Agrees`) is a clause: `plan_for` has a plan of
-// any settings.
+// The same as the steps of the path take them, each step's crate in a struct of its own, which the others do not know:
+// so dc, ng and p_h stand in two of them. That the parts agree (`Agrees`) is a clause: `plan_for` has a plan of any
+// settings.
 #[derive(Clone, Copy)]
 pub struct Plan {
     pub source: Source,
@@ -51,6 +54,9 @@ pub fn unit_points(s: Settings) -> Points
     p.scaled(elementary::gain(s.gain_code))
 }
 
+// The bounds of gain code and nsym stay clauses, here and where sizes are counted: any settings may be handed in, and
+// it is the table of causes that turns them away; a type of those that passed would wrap ten fields for the bounds of
+// two.
 #[tactic(auto, using(layout::proofs::Fits::layout_fits))]
 pub fn plan_of(s: Settings) -> Plan
     requires { (s.gain_code ≤ 3) × (s.nsym ≤ 1023) }

@@ -1,25 +1,25 @@
 // The data symbols, judged one after the other.
-ghost use Rattle.std.specs.Prelude.{◌≡◌, true, ◌+◌, ◌*◌, ◌≤◌, length};
-ghost use Rattle.spread.specs.Spreader.{twiddles_of};
+ghost use Rattle.std.specs.Prelude.{◌≡◌, ◌+◌, ◌*◌, ◌≤◌, length};
 ghost use Rattle.load.specs.Fit.{ncell};
 ghost use Rattle.judge.specs.Symbol.{JudgedUpto};
+ghost use Rattle.refine.specs.Back.{SpreadBy};
 
 use expect::Shape;
-use judge::Judge;
+use judge::{Judge, Spreading};
 use spread::Spreader;
 
-// Only a spread burst wants the twiddle factors.
-pub fn spreader_of(m: Shape) -> Spreader
+// What a spread burst's symbols are equalised by: of another, soft points and twiddle factors would mean nothing.
+pub fn spreading_of(m: Shape, soft: &[f32]) -> Option<Spreading<'_>>
     requires { (1 ≤ m.dc) × (m.dc ≤ 109) }
-    ensures { (result.m ≡ m.dc) × (m.spread ≡ true → result.tw ≡ twiddles_of m.dc) }
+    ensures { SpreadBy m soft.now result }
 {
-    if m.spread {
-        return Spreader::new(m.dc);
+    if !m.spread {
+        return None;
     }
-    Spreader {
-        m: m.dc,
-        tw: [0.0; 218],
-    }
+    Some(Spreading {
+        spreader: Spreader::new(m.dc),
+        soft,
+    })
 }
 
 pub fn judge_symbols(j: &Judge, channel: &mut [f32], answer: &mut [f32])

@@ -1,40 +1,37 @@
 // The whole path, from prior to likelihood.
 ghost use Rattle.std.specs.Prelude.{◌≡◌, ◌+◌, ◌*◌, ◌≤◌, length, take, drop};
-ghost use Rattle.layout.specs.Layouts.{layout_of};
-ghost use Rattle.layout.specs.Sizes.{ncell_of, nbits_of};
-ghost use Rattle.points.specs.Constellation.{bps_of};
 ghost use Rattle.load.specs.Fit.{places};
 ghost use Rattle.model.specs.Select.{select_model};
 ghost use Rattle.refine.specs.Refine.{Fit, Refines};
 ghost use Rattle.refine.specs.Received.{burst_of};
 ghost use Rattle.refine.specs.Back.{Agrees, Symbols, Under};
 ghost use Rattle.refine.specs.Front.{cell_length};
-ghost use Rattle.refine.specs.Whole.{pilots_in, starts_in, soft_in, InWork, ExactFit, Rejudged, RefinesExactly};
+ghost use Rattle.refine.specs.Whole.{pilots_in, starts_in, soft_heard, InWork, ExactFit, Rejudged, RefinesExactly};
 
 use crate::bit_order::to_bit_order;
 use crate::burst_grid::BurstGrid;
 use crate::judging::Heard;
 use crate::listening::{listen, places_of};
 use crate::planned::Planned;
-use crate::settings::{Settings, plan_of, unit_points};
+use crate::settings::{plan_of, unit_points};
+use crate::sizes::{nbits, ncell};
 use crate::spoilt::spoilt;
+use crate::symbols::spreading_of;
 use load::Pilots;
 use model::Model;
 
-// The model by its indices, 3 3 where none was borne out, the factor on its errors, and how many likelihoods are not
-// a number. Indices are numbers, as in `Model`: C is handed them. That they fit a byte is a clause where bytes are
-// made: a ghost field would put its proof into `refined_of`, which mirrors the source.
+// The chosen model, and how many likelihoods are not a number. That the model's indices fit a byte is a clause where
+// bytes are made: a ghost field would put its proof into `refined_of`, which mirrors the source.
 #[derive(Clone, Copy)]
 pub struct Refined {
-    pub fd: u32,
-    pub tm: u32,
-    pub scale: f32,
+    pub model: Model,
     pub spoilt: u32,
 }
 
 // The lists that are lent to be written stay parameters, here and in the crates above: document 01 lends the work area
-// as two. Tried on a function of two lists: one that is lent them as a struct has to promise that the struct still
-// holds the caller's lists, and their lengths.
+// as two lists, of f32 and of u32, and answer and channel list apart. Tried on a function of two lists: where a struct
+// holds them, each function that is lent the struct has to promise, besides what it wrote, that the struct still holds
+// the caller's lists, at the length that they had. Where they are only read they become `Pilots` at once (`of_lists`).
 
 // From the np pilots of the work lists.
 fn judge_loaded<'b>(
@@ -46,9 +43,9 @@ fn judge_loaded<'b>(
     answer: &mut [f32],
 ) -> Model
     requires work { Agrees b.now.plan × InWork b.now.plan np wf.now wu.now × (length channel.old ≡ cell_length b.now.plan) }
-    requires symbols { Symbols b.now.plan.source b.now.plan.shape (soft_in b.now.plan wf.now) b.now.burst.grid.now b.now.burst.cells.now channel.old answer.old }
+    requires symbols { Symbols b.now.plan.source b.now.plan.shape b.now.burst.grid.now b.now.burst.cells.now channel.old answer.old }
     ensures { (result ≡ select_model b.now.plan.setting (pilots_in b.now.plan np wf.now wu.now) (starts_in b.now.plan wu.now))
-        × Under b.now.plan result (pilots_in b.now.plan np wf.now wu.now) (starts_in b.now.plan wu.now) b.now.unit.now.pts (soft_in b.now.plan wf.now) b.now.burst.grid.now b.now.burst.cells.now channel.old answer.old channel.new answer.new }
+        × Under b.now.plan result (pilots_in b.now.plan np wf.now wu.now) (starts_in b.now.plan wu.now) b.now.unit.now.pts (soft_heard b.now.plan wf.now) b.now.burst.grid.now b.now.burst.cells.now channel.old answer.old channel.new answer.new }
 {
     let p = b.plan;
     let n = places_of(p.source);
@@ -61,7 +58,7 @@ fn judge_loaded<'b>(
         plan: p,
         pilots,
         unit: b.unit,
-        soft: &wf[a..to],
+        spreading: spreading_of(p.shape, &wf[a..to]),
         grid: g.grid,
         cells: g.cells,
     };
@@ -101,32 +98,13 @@ fn refine_exact(
     requires { ExactFit (burst_of b.now) answer.old channel.old wf.old wu.old }
     ensures { RefinesExactly (burst_of b.now) prior.now result answer.new channel.new }
 {
-    let m = judge_again(b, prior, answer, channel, wf, wu);
+    let model = judge_again(b, prior, answer, channel, wf, wu);
     let n = answer.len();
     to_bit_order(&mut wf[..n], answer);
     Refined {
-        fd: m.fd,
-        tm: m.tm,
-        scale: m.scale,
+        model,
         spoilt: spoilt(answer),
     }
-}
-
-#[tactic(auto, using(layout::proofs::Fits::layout_fits))]
-fn ncell_of(s: Settings) -> usize
-    requires { (1 ≤ s.nsym) × (s.nsym ≤ 1023) }
-    ensures { (result ≡ ncell_of (layout_of s.layout) s.sparse s.nsym) × (result ≤ 101277) }
-{
-    let l = layout::layout(s.layout);
-    l.ncell(s.sparse, s.nsym)
-}
-
-fn nbits_of(s: Settings) -> usize
-    requires { (1 ≤ s.nsym) × (s.nsym ≤ 1023) }
-    ensures { result ≡ nbits_of (layout_of s.layout) s.sparse s.nsym (bps_of s.constellation) }
-{
-    let n = ncell_of(s);
-    n * points::bits_a_point(s.constellation)
 }
 
 pub fn refine(
@@ -140,7 +118,7 @@ pub fn refine(
     requires { Fit (burst_of b.now) answer.old channel.old wf.old wu.old }
     ensures { Refines (burst_of b.now) prior.now result answer.old answer.new channel.old channel.new }
 {
-    let n = nbits_of(b.settings);
-    let c = 3 * ncell_of(b.settings);
+    let n = nbits(b.settings);
+    let c = 3 * ncell(b.settings);
     refine_exact(b, prior, &mut answer[..n], &mut channel[..c], wf, wu)
 }

@@ -52,14 +52,6 @@ fn replayed<R: Read>(from: &mut R, head: &[u8; 5]) -> io::Result<bool>
     Ok(entry::agrees(&rec[..m], head[4], &answer[..k]))
 }
 
-// Prints the place of an entry that differs.
-fn report(rt: &impl Print, at: u64, same: bool) -> io::Result<()> {
-    if same {
-        return Ok(());
-    }
-    println!(rt; "{at} differs")
-}
-
 fn main(rt: HostRuntime) -> io::Result<()> {
     let mut input = rt.stdin();
     let mut t = Tally::NONE;
@@ -70,7 +62,10 @@ fn main(rt: HostRuntime) -> io::Result<()> {
             break;
         }
         let same = replayed(&mut input, &head)?;
-        report(&rt, t.read, same)?;
+        if !same {
+            let at = t.read;
+            println!(rt; "{at} differs")?;
+        }
         t = t.counted(same);
     }
     let Tally { read, differ } = t;

@@ -28,7 +28,8 @@ pub fn all_variances(xs: &[f32]) -> bool
     xs.iter().all(|x| is_variance(*x))
 }
 
-// The first n numbers, or as many as there are.
+// The first n numbers, or as many as there are: a list of priors may be shorter than its burst's bits, and `&xs[..n]`
+// asks for n.
 pub fn first_finite(xs: &[f32], n: usize) -> bool
     ensures { result ≡ all is_finite (take n xs.now) }
 {

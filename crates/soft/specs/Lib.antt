@@ -1,3 +1,4 @@
 pub mod Soft
 pub mod Tree
+pub mod Flat
 pub mod Laws

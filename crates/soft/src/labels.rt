@@ -3,8 +3,8 @@ ghost use Rattle.soft.specs.Tree.{Children, Level};
 
 use crate::bit::{Costs, costs_of};
 
-// The labels of a level, each one bit longer: by a 0, and by a 1. Written by the index: pairs from `chunks_exact_mut`
-// would be indexed too.
+// The labels of a level, each one bit longer: by a 0, and by a 1. By the index: no contract of the kit says what a list
+// ends as that `as_chunks_mut` or `chunks_exact_mut` lent out in pairs.
 #[tactic(auto, using(seq::specs::Tab::Laws::tab_none, crate::proofs::Prefix::length_page, crate::proofs::Prefix::two_more, crate::proofs::Prefix::written), unfolding(crate::specs::Tree::page))]
 fn split(up: &[f32], c: Costs) -> [f32; 64]
     requires { length up.now ≤ 32 }

@@ -2,6 +2,7 @@
 #![tactic(auto)]
 
 mod bit;
+mod flat;
 mod labels;
 mod moments;
 

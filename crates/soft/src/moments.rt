@@ -24,6 +24,8 @@ impl Moments {
     }
 }
 
+// A value and its variance: of a data cell under its priors, and of whatever else stands as three numbers in a list
+// (flat.rt).
 #[derive(Clone, Copy)]
 pub struct Soft {
     pub mean: Complex,

@@ -1,4 +1,3 @@
 pub mod Loops
 pub mod Unseen
 pub mod Constants
-pub mod Lengths

@@ -13,10 +13,10 @@ fn rows_of_column<const N: usize>(a: &[f64; 1600], i: usize, j: usize) -> [f64; 
     requires { (i + N ≤ 40) × (j < 40) }
     ensures { (r : ℕ) → r < N → at result r ≡ at2 a.now (i + r) j }
 {
+    // Not by `array::from_fn`: tried, that the array then has what the closure gives did not prove.
     let mut s = [0.0f64; N];
-    // r is also the row's number, from i on.
-    for r in 0..N {
-        s[r] = get(a, i + r, j);
+    for (r, x) in s.iter_mut().enumerate() {
+        *x = get(a, i + r, j);
     }
     s
 }
@@ -26,9 +26,8 @@ fn subtract<const N: usize>(a: &[f64; 1600], i: usize, p: usize, m: f64, s: &mut
     requires { (i + N ≤ 40) × (p < 40) }
     ensures { (r : ℕ) → r < N → at s.new r ≡ at s.old r ⊖ at2 a.now (i + r) p ⊗ m }
 {
-    // r is also the row's number, from i on.
-    for r in 0..N {
-        s[r] -= get(a, i + r, p) * m;
+    for (r, x) in s.iter_mut().enumerate() {
+        *x -= get(a, i + r, p) * m;
     }
 }
 
@@ -53,8 +52,7 @@ pub fn below<const N: usize>(a: &mut [f64; 1600], i: usize, j: usize, d: f64)
     ensures { a.new ≡ for i (i + N) (below j d) a.old }
 {
     let s = reduce::<N>(a, i, j);
-    // r is also the row's number, from i on.
-    for r in 0..N {
-        put(a, i + r, j, s[r] / d);
+    for (r, x) in s.iter().enumerate() {
+        put(a, i + r, j, *x / d);
     }
 }

@@ -5,15 +5,14 @@ ghost use Rattle.solve.specs.Solve.{forward_sum, forward, backward_sum, backward
 use crate::Matrix;
 use crate::matrix::get;
 
-#[tactic(auto, using(crate::proofs::Loops::loops), unfolding(crate::specs::Solve::forward_sum))]
+#[tactic(auto, using(crate::proofs::Loops::loops, crate::proofs::Loops::cut), unfolding(crate::specs::Solve::forward_sum))]
 fn forward_sum(a: &[f64; 1600], b: &[f64; 40], y: &[f64; 40], i: usize) -> f64
     requires { i < 40 }
     ensures { result ≡ forward_sum a.now b.now y.now i }
 {
     let mut s = b[i];
-    // p is a place in y and a column of a.
-    for p in 0..i {
-        s -= get(a, i, p) * y[p];
+    for (p, x) in y[..i].iter().enumerate() {
+        s -= get(a, i, p) * *x;
     }
     s
 }
@@ -38,7 +37,8 @@ impl Matrix {
         ensures { result ≡ backward_sum self.now.k self.now.a y.now w.now i }
     {
         let mut s = y[i];
-        // p is a place in w and a row of a.
+        // p is a place in w and a row of a: of w[i + 1..k] the places would count from 0, and the row would be p + i +
+        // 1.
         for p in i + 1..self.k {
             s -= get(&self.a, p, i) * w[p];
         }

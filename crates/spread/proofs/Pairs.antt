@@ -35,17 +35,3 @@ module _ (z : ℕ → Complex) where
 
   pub length_pairs : (k : ℕ) → length (pairs z k) ≡ 2 * k
   length_pairs k = length_cat 2 (λ i. flat (z i)) (λ j. refl) k ∙ omega arith
-
-  pub length_paired : (k : ℕ) (l : List Float) → 2 * k ≤ length l → length (pairs z k ++ drop (2 * k) l) ≡ length l
-  length_paired k l h = length-append (pairs z k) (drop (2 * k) l) ∙ omega (arith, length_pairs k, length-drop (2 * k) l)
-
-  pub pair_at : (n k : ℕ) (l : List Float) → k < n → complex_at (pairs z n ++ l) k ≡ z k
-  pair_at n k l h =
-      let e : 2 * k + 0 ≡ 2 * k = omega arith in
-      ap₂ complex (rw e at (part 0 (omega arith))) (part 1 (omega arith))
-    where
-      part : (t : ℕ) → t < 2 → get_or (pairs z n ++ l) (2 * k + t) nan ≡ get_or (flat (z k)) t nan
-      part t u =
-          let a : k * 2 ≡ 2 * k = omega arith in
-          get_or-append (pairs z n) l nan (2 * k + t) (omega (arith, length_pairs n))
-          ∙ (rw a at (get_d_cat 2 (λ i. flat (z i)) nan (λ j. refl) n k t h u))

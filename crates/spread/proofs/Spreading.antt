@@ -17,7 +17,7 @@ use Rattle.dsp.specs.declared.Complex.{Complex}
 use Rattle.dsp.specs.Arithmetic.{complex, zeroᶜ, scaleᶜ, ◌+ᶜ◌, ◌*ᶜ◌}
 use Rattle.dsp.specs.Flat.{complex_at, flat}
 use Rattle.spread.specs.Spreader.{twiddle, twiddles_of, factor, next, unitary, Sum, start, turn, sum_of, output, transform, forward_of, inverse_of, Indexed}
-use Rattle.spread.proofs.Pairs.{pairs, length_pairs, pair_at, pairs_none, pairs_step, pairs_end}
+use Rattle.spread.proofs.Pairs.{pairs, length_pairs, pairs_none, pairs_step, pairs_end}
 
 -- ---- the index
 pub next_wraps : (m k idx : ℕ) → m ≤ idx + k → idx + k - m ≡ next m k idx
@@ -86,11 +86,6 @@ module _ (m : ℕ) (tw : List Float) (inverse : Bool) (a : List Float) where
   unfolding transform
   length_transform = length_pairs (output m tw inverse a) m
 
-  -- followed by anything
-  pub transform_at : (k : ℕ) (l : List Float) → k < m → complex_at (transform m tw inverse a ++ l) k ≡ output m tw inverse a k
-  unfolding transform
-  transform_at k l h = pair_at (output m tw inverse a) m k l h
-
   -- no more than m complex numbers are read
   pub transform_reads : (b : List Float) → ((j : ℕ) → j < m → complex_at a j ≡ complex_at b j) → transform m tw inverse a ≡ transform m tw inverse b
   unfolding transform output sum_of turn
@@ -123,14 +118,6 @@ zeros_left n h =
     let e : 218 ≡ n + (218 - n) = omega arith in
     ap (λ (x : ℕ). drop n (replicate x zero32)) e
     ∙ rw (← replicate-append-replicate n (218 - n) zero32) (drop_at (replicate n zero32) (replicate (218 - n) zero32) n (length-replicate n zero32))
-
-pub length_twiddles : (m : ℕ) → m ≤ 109 → length (twiddles_of m) ≡ 218
-unfolding twiddles_of
-length_twiddles m h = length-append (pairs (twiddle m) m) (replicate (218 - 2 * m) zero32) ∙ omega (arith, length_pairs (twiddle m) m, length-replicate (218 - 2 * m) zero32)
-
-pub twiddle_at : (m k : ℕ) → k < m → complex_at (twiddles_of m) k ≡ twiddle m k
-unfolding twiddles_of
-twiddle_at m k h = pair_at (twiddle m) m k (replicate (218 - 2 * m) zero32) h
 
 -- ---- what the check uses of the loops
 pub ruleset summing = (for_none, for_next, next_lt)

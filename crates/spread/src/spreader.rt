@@ -4,7 +4,8 @@ ghost use Rattle.spread.specs.Spreader.{twiddles_of};
 
 use crate::twiddle::twiddles;
 
-// How many complex numbers are spread, and their twiddle factors: room for 109, the most that a symbol has.
+// How many complex numbers are spread, and their twiddle factors: room for 109, the most that a symbol has. No
+// `ArrayVec`, as in `Points`: C lends all 218 numbers with any m, and the definitions have zeros past the factors.
 #[derive(Drop)]
 pub struct Spreader {
     pub m: usize,

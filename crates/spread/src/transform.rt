@@ -28,8 +28,8 @@ impl Spreader {
         1.0 / ieee::sqrt(self.m as f32)
     }
 
-    // Twiddle factor idx, or its conjugate. `inverse` is the source's own flag: it picks one of two factors here, and a
-    // closure in its place would need a clause that says what it answers.
+    // Twiddle factor idx, or its conjugate. `inverse` is the source's own flag: it picks one of two factors here, and
+    // a closure in its place would need a clause that says what it answers.
     #[tactic(auto, unfolding(crate::specs::Spreader::factor))]
     fn factor(&self, idx: usize, inverse: bool) -> Complex
         requires { idx < 109 }
@@ -47,7 +47,7 @@ impl Spreader {
     {
         let mut acc = Complex::ZERO;
         let mut idx = 0;
-        // j is a number's place in a, whose list is flat.
+        // By number: a walk over `as_chunks::<2>()` is to be cut to m, and reads each pair by `Complex::at` too.
         for j in 0..self.m {
             acc += Complex::at(a, j) * self.factor(idx, inverse);
             idx = self.next(k, idx);
@@ -55,7 +55,9 @@ impl Spreader {
         acc
     }
 
-    // Unitary DFT, or IDFT, of m numbers of a into b.
+    // Unitary DFT, or IDFT, of m numbers of a into b. That b, and v below, has room for them is a clause: each is a
+    // list that is lent for the call, and a struct of it and the spreader would be made by the caller for this call
+    // alone.
     #[tactic(auto, using(crate::proofs::Spreading::writing), unfolding(crate::specs::Spreader::transform))]
     fn transform(&self, inverse: bool, a: &[f32; 218], b: &mut [f32])
         requires { 2 * self.now.m ≤ length b.old }

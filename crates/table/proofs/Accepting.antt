@@ -13,7 +13,7 @@ use Rattle.ieee.specs.Num.{zero32, one32}
 use Rattle.ieee.specs.Order.{is_finite}
 use Rattle.table.specs.Sizes.{nc_of, grid_cells, ncell_of, nbits_of, work_length}
 use Rattle.scan.specs.Fine.{all, is_variance}
-use Rattle.table.specs.Rows.{is_power, is_level, bad_layout, bad_codes, bad_symbols, bad_grid, bad_variances, bad_settings, bad_numbers, room_for}
+use Rattle.table.specs.Rows.{holds, is_power, is_level, bad_layout, bad_codes, bad_symbols, bad_grid, bad_variances, bad_settings, bad_numbers, room_for}
 use Rattle.table.specs.Refusals.{refusal_of}
 use Rattle.table.specs.Refusals.{lent, refusal_in}
 use Rattle.table.specs.Table.{plain, silent, blank, SomeAccepted}
@@ -45,7 +45,7 @@ enough n x = le-leb n (length (replicate n x)) (omega (arith, length-replicate n
 
 module _ (s : Settings) where
   room : room_for s (lent (blank (nbits_of s)) (blank (3 * ncell_of s)) (blank (work_length s)) (replicate (work_length s) 0)) ≡ true
-  unfolding room_for
+  unfolding room_for holds
   room =
       rw (enough (nbits_of s) zero32, enough (3 * ncell_of s) zero32, enough (work_length s) zero32, enough {A = ℕ} (work_length s) 0) refl
 

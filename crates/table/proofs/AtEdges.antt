@@ -1,8 +1,10 @@
--- Row 7 at its edges. Assumes nothing.
+-- The row of cause 7 at its edges. Assumes nothing.
 use Prim.Native.Nat.{ℕ, zero, suc}
 use mathlib.Core.Path.{◌≡◌, refl, ap}
 use mathlib.Core.Bool.{Bool, true, false}
 use mathlib.Core.List.{List, [], ◌∷◌}
+use native.Mathlib.Omega.{arith}
+use Rattle.std.proofs.lemmas.List.{take-take}
 use lib.ListN.{take}
 use lib.Ieee.{Float, inf, neg, of_bits, round, lt, le}
 use Rattle.ieee.specs.Order.{is_finite}
@@ -12,14 +14,9 @@ use Rattle.scan.specs.Fine.{is_variance}
 use Rattle.table.specs.Rows.{is_power, is_level, bad_numbers}
 use Rattle.table.specs.Edges.{Edges}
 
-take_twice : (n : ℕ) (xs : List Float) → take n (take n xs) ≡ take n xs
-take_twice zero xs = refl
-take_twice (suc n) [] = refl
-take_twice (suc n) (x ∷ xs) = ap (λ (r : List Float). x ∷ r) (take_twice n xs)
-
 past : (s : Settings) (grid sigma cells prior : List Float) → bad_numbers s grid sigma cells prior ≡ bad_numbers s grid sigma cells (take (nbits_of s) prior)
 unfolding bad_numbers
-past s grid sigma cells prior = rw (take_twice (nbits_of s) prior) refl
+past s grid sigma cells prior = rw (take-take (nbits_of s) (nbits_of s) prior (omega arith)) refl
 
 inf_variance : (minus : Bool) → is_variance (inf minus) ≡ false
 unfolding is_variance is_finite of_bits lt

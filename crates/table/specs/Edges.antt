@@ -1,4 +1,4 @@
--- What row 7 says at its edges. Proved in proofs/AtEdges.antt.
+-- What the row of cause 7 says at its edges. Proved in proofs/AtEdges.antt.
 use Rattle.std.specs.Prelude.{◌≡◌, Bool, true, false, List, take, Float}
 use Rattle.std.specs.Float.{nan, inf, binary32}
 use Rattle.std.specs.Float.Ieee.{neg, round}

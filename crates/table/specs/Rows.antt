@@ -1,5 +1,5 @@
 -- Document 01's causes for turning a burst away, a definition a row: true where the row turns the call away.
-use Rattle.std.specs.Prelude.{◌*◌, Bool, not, ◌&&◌, ◌||◌, List, length, take, ltb, leb, eqb, Float}
+use Rattle.std.specs.Prelude.{ℕ, ◌*◌, Bool, true, not, Option, Some, None, ◌&&◌, ◌||◌, List, length, take, ltb, leb, eqb, Float}
 use Rattle.std.specs.Float.{binary32}
 use Rattle.std.specs.Float.Ieee.{of_bits, lt, le}
 use Rattle.ieee.specs.Num.{zero32}
@@ -27,6 +27,11 @@ is_level x = le eighth32 x && le x eight32
 
 -- ---- the rows
 
+-- a list of so many numbers has room for n; one that is not lent is not written
+unfoldable pub holds : (n : ℕ) → Option ℕ → Bool
+holds n None = true
+holds n (Some k) = leb n k
+
 module _ (s : Settings) where
   -- 1: layout above 8
   unfoldable pub bad_layout : Bool
@@ -51,8 +56,8 @@ module _ (s : Settings) where
   -- 6, where this does not hold of a refinement: room in the answer, the channel list and both lists of the work area
   unfoldable pub room_for : Lent → Bool
   room_for lent =
-      leb (nbits_of s) lent.answer
-      && (leb (3 * ncell_of s) lent.channel
+      holds (nbits_of s) lent.answer
+      && (holds (3 * ncell_of s) lent.channel
       && (leb (work_length s) lent.wf
       && leb (work_length s) lent.wu))
 

@@ -3,8 +3,9 @@
 
 mod refusal;
 mod rows;
+mod settings;
 mod sizes;
 
 pub use refusal::verdict;
-pub use rows::{bad_codes, bad_layout, bad_symbols};
-pub use sizes::{Lent, grid_cells, nbits, nc, ncell};
+pub use settings::settings_verdict;
+pub use sizes::{Lent, grid_cells, nc};

@@ -1,28 +1,28 @@
 // The table of causes, a function a row.
 ghost use Rattle.std.specs.Prelude.{◌≡◌};
 ghost use Rattle.table.specs.Sizes.{Counted};
-ghost use Rattle.table.specs.Rows.{is_level, is_power, bad_layout, bad_codes, bad_symbols, bad_grid, bad_variances, bad_settings, bad_numbers, room_for};
+ghost use Rattle.table.specs.Rows.{is_level, is_power, bad_layout, bad_codes, bad_symbols, bad_grid, bad_variances, bad_settings, bad_numbers, holds, room_for};
 
-use crate::sizes::{Lent, grid_cells, nbits, nc, ncell};
-use refine::{BurstGrid, Settings};
+use crate::sizes::{Lent, grid_cells, nc};
+use refine::{BurstGrid, Settings, nbits, ncell};
 use scan::{all_finite, all_variances, first_finite};
 
 #[tactic(auto, unfolding(crate::specs::Rows::bad_layout))]
-pub fn bad_layout(s: Settings) -> bool
+pub(crate) fn bad_layout(s: Settings) -> bool
     ensures { result ≡ bad_layout s }
 {
     s.layout > 8
 }
 
 #[tactic(auto, unfolding(crate::specs::Rows::bad_codes))]
-pub fn bad_codes(s: Settings) -> bool
+pub(crate) fn bad_codes(s: Settings) -> bool
     ensures { result ≡ bad_codes s }
 {
     s.constellation > 3 || s.gain_code > 3
 }
 
 #[tactic(auto, unfolding(crate::specs::Rows::bad_symbols))]
-pub fn bad_symbols(s: Settings) -> bool
+pub(crate) fn bad_symbols(s: Settings) -> bool
     ensures { result ≡ bad_symbols s }
 {
     s.nsym == 0 || s.nsym > 1023
@@ -44,6 +44,14 @@ pub(crate) fn bad_variances(b: &BurstGrid) -> bool
     b.sigma.len() != nc(b.settings) || b.cells.len() != ncell(b.settings)
 }
 
+// A list that is not lent is not written.
+#[tactic(auto, unfolding(crate::specs::Rows::holds))]
+fn holds(n: usize, lent: Option<usize>) -> bool
+    ensures { result ≡ holds n lent }
+{
+    lent.is_none_or(|k| k >= n)
+}
+
 #[tactic(auto, using(crate::proofs::Bounded::small), unfolding(crate::specs::Rows::room_for))]
 pub(crate) fn room_for(s: Settings, lent: Lent) -> bool
     requires { Counted s }
@@ -52,7 +60,7 @@ pub(crate) fn room_for(s: Settings, lent: Lent) -> bool
     let bits = nbits(s);
     let cells = ncell(s);
     let work = bits + 12 * grid_cells(s);
-    lent.answer >= bits && lent.channel >= 3 * cells && lent.wf >= work && lent.wu >= work
+    holds(bits, lent.answer) && holds(3 * cells, lent.channel) && lent.wf >= work && lent.wu >= work
 }
 
 #[tactic(auto, unfolding(crate::specs::Rows::is_level))]

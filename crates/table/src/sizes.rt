@@ -1,20 +1,21 @@
 // How large a burst's lists are.
 ghost use Rattle.std.specs.Prelude.{◌≡◌};
-ghost use Rattle.table.specs.Sizes.{Counted, nc_of, grid_cells, ncell_of, nbits_of};
+ghost use Rattle.table.specs.Sizes.{Counted, nc_of, grid_cells};
 
 use refine::Settings;
 
-// How many numbers the lists have that are lent to be written: answer, channel list, both lists of the work area.
+// How many numbers the lists have that are lent to be written: answer, channel list, both lists of the work area. Some
+// entries are lent the work area only.
 #[derive(Clone, Copy)]
 pub struct Lent {
-    pub answer: usize,
-    pub channel: usize,
+    pub answer: Option<usize>,
+    pub channel: Option<usize>,
     pub wf: usize,
     pub wu: usize,
 }
 
 // `Counted` is a clause and no fact of `Settings`, here and in the rows: C hands over any number, which `bad_symbols`
-// tests.
+// tests; a type of settings that passed would wrap ten fields for the bound of one.
 
 // Cells of the grid: ng × nc.
 #[tactic(auto, using(layout::proofs::Fits::layout_fits, crate::proofs::Bounded::small))]
@@ -31,19 +32,4 @@ pub fn nc(s: Settings) -> usize
 {
     let l = layout::layout(s.layout);
     l.nc
-}
-
-#[tactic(auto, using(layout::proofs::Fits::layout_fits))]
-pub fn ncell(s: Settings) -> usize
-    requires { Counted s }
-    ensures { result ≡ ncell_of s }
-{
-    layout::layout(s.layout).ncell(s.sparse, s.nsym)
-}
-
-pub fn nbits(s: Settings) -> usize
-    requires { Counted s }
-    ensures { result ≡ nbits_of s }
-{
-    ncell(s) * points::bits_a_point(s.constellation)
 }

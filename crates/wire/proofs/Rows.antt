@@ -8,19 +8,17 @@ use Rattle.cause.specs.declared.Cause.{Cause}
 use Rattle.cause.specs.Causes.{cause_number, number_of}
 use Rattle.refine.specs.Refine.{nbits}
 use Rattle.table.specs.Rows.{bad_layout, bad_codes, bad_symbols}
-use Rattle.table.proofs.Passing.{counted}
+use Rattle.table.specs.Refusals.{settings_refusal}
+use Rattle.table.proofs.Passing.{counted_by, good_layout, good_codes, good_symbols, first_rows}
+pub use Rattle.table.proofs.Passing.{some_number}
 use Rattle.wire.specs.declared.shape.Sizes.{Sizes}
 use Rattle.wire.specs.Record.{fields, settings, settings_of, burst_of}
 use Rattle.wire.specs.Sizes.{plain, sizes_of}
 use Rattle.wire.specs.Shape.{bad_record, shape_refusal, bits_of, bits_in}
 use Rattle.wire.proofs.Shaped.{whole_record}
 
--- no cause has the number of an answer
-pub some_number : (c : Cause) → cause_number c ≡ 0 → ⊥
-some_number c e = grind (arith, cause_number)
-
 module _ (rec : List ℕ) where
-  -- rows 1 to 3 read fields only
+  -- the rows of causes 1 to 3 read fields only
   pub layout_row : bad_layout (settings rec) ≡ bad_layout (plain (fields rec))
   unfolding bad_layout settings settings_of
   layout_row = refl
@@ -51,5 +49,12 @@ module _ (rec : List ℕ) where
       go true n = refl
       go false n = refl
 
+  -- a cause of the table's is the shape's
+  pub turned_away : (c : Cause) → bad_record rec ≡ false → cause_number c ≡ settings_refusal (plain (fields rec)) → cause_number c ≡ shape_refusal rec
+  unfolding settings_refusal shape_refusal
+  turned_away c w e =
+      let s = settings rec in
+      rw w (first_rows (bad_layout s) (bad_codes s) (bad_symbols s) _ c (rw (layout_row, codes_row, symbols_row) e))
+
 -- for `grind`, of the rows
-pub ruleset rows = (layout_row, codes_row, symbols_row, long_record, counted)
+pub ruleset rows = (layout_row, codes_row, symbols_row, long_record, counted_by, good_layout, good_codes, good_symbols, turned_away)

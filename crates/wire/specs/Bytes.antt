@@ -11,4 +11,4 @@ number_bytes n xs = cat n (λ i. number (get_or xs i nan))
 
 -- two model indices of a byte, scale and spoilt count of four
 unfoldable pub report_bytes : Refined → List ℕ
-report_bytes r = r.fd ∷ r.tm ∷ (number r.scale ++ word r.spoilt)
+report_bytes r = r.model.fd ∷ r.model.tm ∷ (number r.model.scale ++ word r.spoilt)

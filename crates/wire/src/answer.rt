@@ -22,18 +22,18 @@ pub fn put_numbers(src: &[f32], out: &mut [u8])
 // Both indices of the model, the scale, the spoilt likelihoods.
 #[tactic(auto, unfolding(crate::specs::Bytes::report_bytes))]
 fn put_report(r: Refined, out: &mut [u8])
-    requires { (r.fd ≤ 255) × (r.tm ≤ 255) × (length out.old ≡ 10) }
+    requires { (r.model.fd ≤ 255) × (r.model.tm ≤ 255) × (length out.old ≡ 10) }
     ensures { out.new ≡ report_bytes r }
 {
     let (model, numbers) = out.split_at_mut(2);
     let (scale, spoilt) = numbers.split_at_mut(4);
-    model.copy_from_slice(&[r.fd as u8, r.tm as u8]);
-    put_word(std::num::f32_to_bits_with_nan(r.scale), scale);
+    model.copy_from_slice(&[r.model.fd as u8, r.model.tm as u8]);
+    put_word(std::num::f32_to_bits_with_nan(r.model.scale), scale);
     put_word(r.spoilt, spoilt);
 }
 
 pub fn put_answer(r: Refined, answer: &[f32], out: &mut [u8])
-    requires { (r.fd ≤ 255) × (r.tm ≤ 255) × (10 + 4 * length answer.now ≤ length out.old) }
+    requires { (r.model.fd ≤ 255) × (r.model.tm ≤ 255) × (10 + 4 * length answer.now ≤ length out.old) }
     ensures { out.new ≡ (report_bytes r ++ number_bytes (length answer.now) answer.now) ++ drop (10 + 4 * length answer.now) out.old }
 {
     let (report, numbers) = out.split_at_mut(10);

@@ -5,7 +5,8 @@ ghost use Rattle.wire.specs.Sizes.{plain};
 
 use refine::Settings;
 
-// As the record has them. Layout and codes are numbers: the table of causes has rows for those that there are not.
+// As the record has them. Layout and codes are numbers, as in `Settings`: a record may name a layout that does not
+// exist, and the table of causes refuses it as `Cause::Layout`.
 #[derive(Clone, Copy)]
 pub struct Fields {
     pub layout: u32,
@@ -48,7 +49,9 @@ impl Fields {
         }
     }
 
-    // Before those numbers are read.
+    // Before those numbers are read: the record may be too short for them. Neither the table's first rows nor the sizes
+    // look at the three, but both take `Settings`, which is the flat struct that C passes; a struct of the other seven
+    // would have to be copied into it field by field.
     pub(crate) fn plain(self) -> Settings
         ensures { result ≡ plain self }
     {

@@ -26,9 +26,9 @@ pub fn sizes_of(f: Fields) -> Sizes
     let s = f.plain();
     Sizes {
         nc: table::nc(s),
-        ncell: table::ncell(s),
+        ncell: refine::ncell(s),
         grid: table::grid_cells(s),
-        nbits: table::nbits(s),
+        nbits: refine::nbits(s),
     }
 }
 
@@ -60,16 +60,7 @@ pub fn sizes_in(record: &[u8]) -> Result<Sizes, Cause>
         return Err(Cause::Record);
     }
     let f = fields_of(head(record));
-    let s = f.plain();
-    if table::bad_layout(s) {
-        return Err(Cause::Layout);
-    }
-    if table::bad_codes(s) {
-        return Err(Cause::Codes);
-    }
-    if table::bad_symbols(s) {
-        return Err(Cause::Symbols);
-    }
+    table::settings_verdict(f.plain())?;
     let z = sizes_of(f);
     if bad_length(record, f, z) {
         return Err(Cause::Record);

@@ -4,7 +4,8 @@
 ghost use Rattle.std.specs.Prelude.{◌≡◌, ◌+◌, ◌≤◌, length};
 ghost use Rattle.words.specs.Bytes.{word_at, word};
 
-// The four bytes from place k.
+// The four bytes from place k. `u32::from_be_bytes` takes an array, which std gives of a slice as an Option or a
+// Result: to name the four bytes is plainer than to unwrap it.
 #[tactic(auto, unfolding(crate::specs::Bytes::word_at))]
 pub fn word_at(s: &[u8], k: usize) -> u32
     requires { k + 4 ≤ length s.now }

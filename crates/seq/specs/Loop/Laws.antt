@@ -60,7 +60,8 @@ module _ {S : Type 0} (f : ℕ → S → S) where
       let q : n ≡ 0 = omega arith in
       rw q at e
 
-  for_join : (a b : ℕ) (s : S) → a ≤ b → (n : ℕ) → for b (b + n) f (for a b f s) ≡ for a (b + n) f s
+  -- one loop after the other
+  pub for_join : (a b : ℕ) (s : S) → a ≤ b → (n : ℕ) → for b (b + n) f (for a b f s) ≡ for a (b + n) f s
   for_join a b s h zero =
       let e : b + 0 ≡ b = omega arith in
       rw e (sym (for_none b (for a b f s)))
@@ -89,6 +90,10 @@ for_all {S} P f a b s step base = go (b - a) (λ i t u v. step i t u v)
     go : (n : ℕ) → ((i : ℕ) (t : S) → a ≤ i → i < a + n → P t → P (f i t)) → P (turns f a n s)
     go zero st = base
     go (suc n) st = st (a + n) (turns f a n s) (omega arith) (omega arith) (go n (λ i t u v. st i t u (omega arith)))
+
+-- turns that do nothing
+pub for_idle : {S : Type 0} (f : ℕ → S → S) (a b : ℕ) (s : S) → ((i : ℕ) (t : S) → a ≤ i → i < b → f i t ≡ t) → for a b f s ≡ s
+for_idle f a b s h = for_all (λ t. t ≡ s) f a b s (λ i t u v e. h i t u (omega arith) ∙ e) refl
 
 -- two loops side by side
 pub for_both : {S T : Type 0} (R : S → T → Type 0) (f : ℕ → S → S) (g : ℕ → T → T) (a b : ℕ) (s : S) (t : T)

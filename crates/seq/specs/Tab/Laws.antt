@@ -1,11 +1,11 @@
 -- What a proof uses of `tab`: nothing written yet, one element more, its length and its elements.
 use Prim.Native.Nat.{ℕ, zero, suc, ◌+◌, ◌<◌, ◌≤◌}
-use Rattle.std.specs.Prelude.{◌≡◌, ◌⊎◌, length, drop}
+use Rattle.std.specs.Prelude.{◌≡◌, ◌⊎◌, length, take, drop}
 use Rattle.std.proofs.Math.Path.{refl, sym, ap}
-use Rattle.std.proofs.Common.{ap₂, ◌∙◌, inl, inr, eq-or-lt_of_le, le_of_suc-le-suc, arith, length-drop, drop-cons, ext_get_or}
-use mathlib.Core.List.{List, [], ◌∷◌, ◌++◌, append_assoc}
+use Rattle.std.proofs.Common.{ap₂, ◌∙◌, inl, inr, eq-or-lt_of_le, le_of_suc-le-suc, arith, length-drop, length-take-le, drop-cons, ext_get_or}
+use mathlib.Core.List.{List, [], ◌∷◌, ◌++◌, append_assoc, append-nil}
 use Rattle.std.proofs.Math.Numerals.{add-one}
-use Rattle.std.proofs.Math.ListN.{get_or, set, length-append, get_or-append}
+use Rattle.std.proofs.Math.ListN.{get_or, set, length-append, get_or-append, drop_of_length-le}
 use Rattle.std.proofs.Math.Seq.{set_at, get_or_at}
 use Rattle.seq.specs.Tab.{tab}
 
@@ -36,6 +36,25 @@ module _ {ℓ} {A : Type ℓ} (f : ℕ → A) where
   -- it has written all: k is no longer below n
   pub tab_end : (k n : ℕ) (l₀ l : List A) → k ≤ n → n ≤ k → l ≡ tab k f ++ drop k l₀ → l ≡ tab n f ++ drop n l₀
   tab_end k n l₀ l h h' e = let q : k ≡ n = omega arith in rw q at e
+
+  -- a loop over a whole list has written all of it
+  pub tab_whole : (k : ℕ) (l₀ l : List A) → k ≤ length l₀ → length l₀ ≤ k → l ≡ tab k f ++ drop k l₀ → l ≡ tab (length l₀) f
+  tab_whole k l₀ l h h' e =
+      tab_end k (length l₀) l₀ l h h' e
+      ∙ (ap (λ (t : List A). tab (length l₀) f ++ t) (drop_of_length-le l₀ (omega arith)) ∙ append-nil (tab (length l₀) f))
+
+  -- a loop over the first n of l has written them, and the rest is l's
+  pub tab_front : (n k : ℕ) (l front : List A) → n ≤ length l → k ≤ n → n ≤ k → front ≡ tab k f ++ drop k (take n l) → front ++ drop n l ≡ tab n f ++ drop n l
+  tab_front n k l front within h h' e =
+      let all : length (take n l) ≡ n = length-take-le n l within in
+      let whole : front ≡ tab n f ++ drop n (take n l) = tab_end k n (take n l) front h h' e in
+      ap (λ (t : List A). t ++ drop n l) (whole ∙ ap (λ (t : List A). tab n f ++ t) (drop_of_length-le (take n l) (omega arith)) ∙ append-nil (tab n f))
+
+  -- what is still to be written is the old list's
+  pub tab_unread : (k : ℕ) (l₀ l : List A) (d : A) → k < length l₀ → l ≡ tab k f ++ drop k l₀ → get_or l k d ≡ get_or l₀ k d
+  tab_unread k l₀ l d h e =
+      rw e
+      (ap (λ (t : List A). get_or (tab k f ++ t) k d) (drop-cons l₀ k d h) ∙ get_or_at (tab k f) (get_or l₀ k d) (drop (suc k) l₀) d k (length_tab k))
 
   pub length_tabbed : (k : ℕ) (l : List A) → k ≤ length l → length (tab k f ++ drop k l) ≡ length l
   length_tabbed k l h = length-append (tab k f) (drop k l) ∙ omega (arith, length_tab k, length-drop k l)

@@ -1,18 +1,23 @@
-use Rattle.std.proofs.Common.{◌≡◌, ℕ, List, arith, refl}
+use Rattle.std.proofs.Common.{◌≡◌, ℕ, List, Some, arith, refl, sym, ap, ◌∙◌}
 use Rattle.std.specs.declared.option.Option.{Option}
 use Rattle.std.specs.Prelude.{unwrap_or}
 use Rattle.wire.specs.Shape.{bits_in, bits_of}
 use lib.ListN.{length-replicate}
 use Rattle.cause.specs.Causes.{cause_number, number_of}
 use Rattle.wire.proofs.Rows.{some_number, bits_or_none}
-use Rattle.burst.proofs.Accepted.{few_bits}
+use Rattle.burst.proofs.Accepted.{some_bits, few_bits}
 use Rattle.burst.proofs.Appended.{same}
 use Rattle.burst.proofs.Printing.{print_refused, print_answer}
 use Rattle.burst.proofs.lines.write_lines.Goals as goal
 
--- the bits that a record has, where none stands for 0
-bits : (rec : List ℕ) (o : Option ℕ) (n : ℕ) → n ≡ unwrap_or o 0 → o ≡ bits_in rec → n ≡ bits_of rec
-bits rec o n e h = rw (e, h) (bits_or_none rec)
+-- the bits that a record has
+bits : (rec : List ℕ) (o : Option ℕ) (n : ℕ) → o ≡ Some n → o ≡ bits_in rec → n ≡ bits_of rec
+bits rec o n e h = ap (λ (p : Option ℕ). unwrap_or p 0) (sym e ∙ h) ∙ bits_or_none rec
+
+pub unwrap-bits-requires : goal.unwrap-bits-requires
+unwrap-bits-requires g c =
+    let q = c.refine_record in
+    rw c.record_bits.ensures (some_bits c.args.rec.now _ (sym q.ensures.result ∙ rw c.in_default.is refl))
 
 pub returns-in-Err : goal.returns-in-Err
 returns-in-Err g c =
@@ -22,11 +27,11 @@ returns-in-Err g c =
 
 pub write_answer-requires : goal.write_answer-requires
 write_answer-requires g c =
-    omega (arith, bits c.args.rec.now c.record_bits.result c.unwrap_or-bits.result c.unwrap_or-bits.ensures c.record_bits.ensures, few_bits c.args.rec.now, c.refine_record.auto.out, length-replicate {A = ℕ} 16354 0)
+    omega (arith, bits c.args.rec.now c.record_bits.result c.unwrap-bits.result c.unwrap-bits.ensures c.record_bits.ensures, few_bits c.args.rec.now, c.refine_record.auto.out, length-replicate {A = ℕ} 16354 0)
 
 pub returns : goal.returns
 returns g c =
     let q = c.refine_record in
-    let n = c.unwrap_or-bits in
+    let n = c.unwrap-bits in
     let e = bits c.args.rec.now c.record_bits.result n.result n.ensures c.record_bits.ensures in
     same _ _ _ _ _ c.write_answer.ensures (print_answer c.args.rec.now (number_of q.result) _ q.new.out (length-replicate {A = ℕ} 16354 0) q.ensures n.result e (rw c.in_default.is refl))

@@ -1,11 +1,15 @@
 -- `power` meets its contract.
 use mathlib.Core.Path.{refl}
-use Rattle.channel.specs.Power.{count_of, power_by}
+use lib.ListN.{length}
+use Rattle.seq.specs.Tab.Laws.{length_tab}
+use Rattle.load.specs.Pilots.{listed, pilot_at}
+use Rattle.channel.specs.Power.{count_of, power_by, channel_power}
 use Rattle.channel.proofs.Summing.{powers_are, variances_are}
 use Rattle.channel.proofs.power.power.Goals as goal
 
 pub returns : goal.returns
-unfolding power_by count_of
+unfolding channel_power power_by count_of
 returns c =
-    let a = c.args in
-    rw (c.max-2.ensures, c.max.ensures, c.variances.ensures, variances_are a.n a.pf.now, c.powers.ensures, powers_are a.n a.pf.now, c.max-count.ensures) refl
+    let p = c.args.pilots.now in
+    let n = length p.c.now in
+    rw (c.max-2.ensures, c.max.ensures, c.variances.ensures, variances_are (listed p) n, c.powers.ensures, powers_are (listed p) n, c.max-count.ensures, c.len.ensures, length_tab (pilot_at p.c.now p.g.now p.f.now) n) refl

@@ -8,5 +8,5 @@ use Rattle.elementary.specs.Exp.{exp_at}
 use Rattle.demap.specs.Demap.{at}
 use Rattle.demap.proofs.shared.exponentials.Given as goal
 
-abbrev pub invariant-loop-k : goal.invariant-loop-k
-invariant-loop-k l = l.at ≡ tab l.k (λ (j : ℕ). exp_at (at l.d.at j ⊟ l.m)) ++ drop l.k l.initial.at
+abbrev pub invariant-loop-x : goal.invariant-loop-x
+invariant-loop-x l = l.x-items ≡ tab l.x-index (λ (j : ℕ). exp_at (at l.initial.x-items j ⊟ l.m)) ++ drop l.x-index l.initial.x-items

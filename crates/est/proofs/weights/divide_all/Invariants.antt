@@ -1,7 +1,7 @@
-use Rattle.std.proofs.Common.{◌≡◌, ◌++◌, drop}
+use Rattle.std.proofs.Common.{◌≡◌}
 use Rattle.seq.specs.Loop.{for}
 use Rattle.est.specs.Weights.{over}
 use Rattle.est.proofs.weights.divide_all.Given as goal
 
 abbrev pub invariant-loop-x : goal.invariant-loop-x
-invariant-loop-x l = l.x-items ++ drop l.k l.fn.w ≡ for 0 l.x-index (over l.s) l.fn.w
+invariant-loop-x l = l.x-items ≡ for 0 l.x-index (over l.s) l.fn.w

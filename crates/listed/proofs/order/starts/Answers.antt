@@ -1,7 +1,6 @@
 -- `starts` meets its contract.
 use Rattle.std.proofs.Common.{arith}
-use Rattle.seq.specs.Tab.Laws.{tab_none, tab_step}
-use Rattle.near.proofs.Terms.{tab_whole}
+use Rattle.seq.specs.Tab.Laws.{tab_none, tab_step, tab_whole}
 use Rattle.listed.proofs.order.starts.Goals as goal
 
 pub loop-g-init : goal.loop-g-init

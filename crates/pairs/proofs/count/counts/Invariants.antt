@@ -1,5 +1,5 @@
-use Rattle.std.proofs.Common.{◌≤◌}
+use Rattle.std.proofs.Common.{◌≤◌, length}
 use Rattle.pairs.proofs.count.counts.Given as goal
 
 abbrev pub invariant-loop-i : goal.invariant-loop-i
-invariant-loop-i g l = record { equal : l.n.equal ≤ l.i; differ : l.n.differ ≤ l.i; others : l.n.others ≤ l.i }
+invariant-loop-i g l = record { equal : l.n.equal ≤ length l.yielded; differ : l.n.differ ≤ length l.yielded; others : l.n.others ≤ length l.yielded }

@@ -9,4 +9,4 @@ returns c =
     let a = c.args in
     let j = a.self.now in
     c.despread_cells.ensures
-    ∙ despread_front j.source.dc j.points.now.pts j.shape.bps _ _ _ _ c.equalize_row-e.ensures (length_equalized j.source j.shape.gain j.soft.now j.grid.now j.cells.now (estimate_in a.row.now) a.t)
+    ∙ despread_front j.source.dc j.points.now.pts j.shape.bps _ _ _ _ c.equalize_row-e.ensures (length_equalized j.source j.shape.gain a.s.now.soft.now j.grid.now j.cells.now (estimate_in a.row.now) a.t)

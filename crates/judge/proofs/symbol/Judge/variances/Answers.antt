@@ -9,7 +9,7 @@ pub loop-j-init : goal.loop-j-init
 loop-j-init c = tab_none _ _
 
 pub loop-j-preserved : goal.loop-j-preserved
-loop-j-preserved c = tab_step _ c.loop-j.j c.args.v.now c.loop-j.v _ (omega (arith, c.requires.lengths.1)) c.loop-j.invariant refl
+loop-j-preserved c = tab_step _ c.loop-j.j c.args.v.now c.loop-j.v _ (omega (arith, c.requires.lengths.1)) c.loop-j.invariant (rw c.estimate_in.ensures refl)
 
 pub returns : goal.returns
 unfolding va

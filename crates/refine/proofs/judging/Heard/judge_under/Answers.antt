@@ -6,7 +6,7 @@ use Rattle.refine.proofs.judging.Heard.judge_under.Goals as goal
 pub invariant_of-e : goal.invariant_of-e
 invariant_of-e c =
     let k = c.fit in
-    let h = c.args.self.now in
+    let h = c.args.self in
     let q = c.requires in
     let w = window_is h _ _ q c.args.m k.result.0 k.ensures.model in
     record {
@@ -19,7 +19,7 @@ invariant_of-e c =
     }
 
 pub judge_with-requires-clause-fits : goal.judge_with-requires-clause-fits
-judge_with-requires-clause-fits c = fits_under c.args.self.now _ _ c.requires c.args.m c.fit.result.0 c.fit.ensures.model _ refl refl
+judge_with-requires-clause-fits c = fits_under c.args.self _ _ c.requires c.args.m c.fit.result.0 c.fit.ensures.model _ refl refl
 
 pub returns : goal.returns
 returns c =
