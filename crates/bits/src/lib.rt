@@ -6,5 +6,5 @@ mod slots;
 mod step;
 
 pub use mix::{SEED_DATA, SEED_HDR, mix32, scramble, sign, wrapping_mul};
-pub use slots::{from_slots, slot, to_slots, value_at};
+pub use slots::{fill_bits, fill_slots, from_slots, slot, to_slots, value_at};
 pub use step::interleave_step;

@@ -35,7 +35,7 @@ pub fn value_at(s: &[f32], i: usize) -> f32
 // The priors, scrambled, each at its slot: `out` has a place for each of the burst's bits, and there may be fewer
 // priors.
 #[tactic(auto, using(crate::proofs::Laws::filling), unfolding(crate::specs::Slots::prior_bit))]
-pub fn to_slots(prior: &[f32], out: &mut [f32])
+pub fn fill_slots(prior: &[f32], out: &mut [f32])
     requires { (0 < length out.old) × (length out.old ≤ longest) }
     ensures { out.new ≡ slot_priors (length out.old) prior.now }
 {
@@ -48,11 +48,19 @@ pub fn to_slots(prior: &[f32], out: &mut [f32])
     }
 }
 
-// The numbers in bit order, unscrambled: a slot for each of `out`. Its walk is not `to_slots`'s: that writes at the
+// The n priors, scrambled, each at its slot; what `out` has past them stays.
+pub fn to_slots(prior: &[f32], n: usize, out: &mut [f32])
+    requires { (0 < n) × (n ≤ longest) × (n ≤ length out.old) }
+    ensures { out.new ≡ slot_priors n prior.now ++ drop n out.old }
+{
+    fill_slots(prior, &mut out[..n]);
+}
+
+// The numbers in bit order, unscrambled: a slot for each of `out`. Its walk is not `fill_slots`'s: that writes at the
 // slot and reads at the bit, this the other way about, and one function for both would ask for each place by a closure
 // of its own.
 #[tactic(auto, using(crate::proofs::Laws::tabbing), unfolding(crate::specs::Slots::bit_of, crate::specs::Slots::bit_order))]
-pub fn from_slots(slots: &[f32], out: &mut [f32])
+pub fn fill_bits(slots: &[f32], out: &mut [f32])
     requires { (0 < length out.old) × (length out.old ≤ longest) × (length out.old ≤ length slots.now) }
     ensures { out.new ≡ bit_order (length out.old) slots.now }
 {
@@ -62,4 +70,12 @@ pub fn from_slots(slots: &[f32], out: &mut [f32])
         let s = slot_by(a, n, i);
         *v = sign(i, slots[s]);
     }
+}
+
+// The n numbers in bit order, unscrambled; what `out` has past them stays.
+pub fn from_slots(slots: &[f32], n: usize, out: &mut [f32])
+    requires { (0 < n) × (n ≤ longest) × (n ≤ length slots.now) × (n ≤ length out.old) }
+    ensures { out.new ≡ bit_order n slots.now ++ drop n out.old }
+{
+    fill_bits(slots, &mut out[..n]);
 }

@@ -1,6 +1,6 @@
 -- Laws of the definitions.
 pub mod Formatted
-pub mod Appended
+pub mod Joined
 pub mod Reading
 pub mod Fours
 pub mod Accepted

@@ -2,8 +2,10 @@
 #![tactic(auto)]
 
 mod answer;
+mod digits;
 mod input;
 mod lines;
+mod text;
 
 ghost use Rattle.std.specs.Prelude.{OnOk, IfSome};
 ghost use Rattle.std.specs.Io.KnownBytes.{Appends};

@@ -16,7 +16,7 @@ use Rattle.model.specs.declared.select.Model.{Model}
 use Rattle.judge.specs.Cells.{index_in}
 use Rattle.judge.specs.Symbol.{fitted_in}
 use Rattle.judge.specs.declared.estimates.Fitted.{Fitted}
-use Rattle.refine.specs.Refine.{fitted_of, carrier_table, symbol_table}
+use Rattle.judge.specs.Fitted.{fitted_of, carrier_table, symbol_table}
 use Rattle.probes.specs.declared.pilots.LoadSettings.{LoadSettings}
 use Rattle.probes.specs.Loading.{source_for, Loading}
 use Rattle.bursts.specs.declared.estimates.Asked.{Asked}

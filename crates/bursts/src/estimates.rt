@@ -7,10 +7,9 @@ ghost use Rattle.bursts.specs.Estimating.{estimate_with, estimates_with, estimat
 use crate::work::{setting_of, trial_in};
 use dsp::Complex;
 use est::{Estimate, Estimator};
-use judge::pilot_index;
+use judge::{fit, pilot_index};
 use model::{Model, Setting, Trial};
 use probes::{LoadSettings, probe_load, put};
-use refine::fit;
 
 // Pilots an estimate may use, the model by its indices, which C passes as numbers, and the factor on its errors.
 #[repr(C)]

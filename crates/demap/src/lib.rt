@@ -7,6 +7,6 @@ mod likelihoods;
 mod metrics;
 mod shared;
 
-pub use decision::decide;
+pub use decision::{decide, decide_among};
 pub use likelihoods::demap;
 pub use metrics::Cell;

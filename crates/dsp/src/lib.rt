@@ -5,7 +5,10 @@ ghost use Rattle.std.specs.Prelude.{◌≡◌};
 ghost use Rattle.dsp.specs.Arithmetic.{complex, conjᶜ, norm_sqr, scaleᶜ};
 
 mod flat;
+mod lists;
 mod operators;
+
+pub use lists::copy;
 
 #[derive(Clone, Copy, Default)]
 pub struct Complex {

@@ -50,6 +50,10 @@ pub fn ln(v: f32) -> f32
     requires { FromLeast v }
     ensures { result ≡ ln_at v }
 {
+    // Not v itself: C sees one pattern for not-a-number, whichever v has.
+    if v.is_nan() {
+        return f32::NAN;
+    }
     if !v.is_finite() {
         return v;
     }

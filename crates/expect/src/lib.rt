@@ -79,7 +79,7 @@ impl Modulation<'_> {
         let n = ncell * 3;
         soft_cells(self.unit, ncell, slots, out);
         if s.spread {
-            soft[..n].copy_from_slice(&out[..n]);
+            dsp::copy(&out[..n], &mut soft[..n]);
             respread(s.dc, s.gain, s.nsym, out);
         }
     }

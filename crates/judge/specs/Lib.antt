@@ -3,3 +3,4 @@ pub mod Judge
 pub mod Fit
 pub mod Upto
 pub mod Symbol
+pub mod Fitted

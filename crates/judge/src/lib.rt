@@ -2,11 +2,13 @@
 #![tactic(auto)]
 
 mod estimates;
+mod fitted;
 mod places;
 mod plain;
 mod spreading;
 mod symbol;
 
 pub use estimates::{Fitted, pilot_index};
+pub use fitted::fit;
 pub use spreading::Spreading;
 pub use symbol::Judge;

@@ -24,7 +24,7 @@ impl Map {
 
     // How many data carriers of symbol g stand before its data carrier c.
     #[tactic(auto, using(crate::proofs::Fits::at_fits, crate::proofs::Cells::index_low, crate::proofs::Cells::index_high, crate::proofs::Cells::index_takes, crate::proofs::Cells::index_above,))]
-    pub fn cell_index(self, c: usize, g: usize) -> usize
+    pub fn cell_index(self, g: usize, c: usize) -> usize
         requires { FitMap self × (1 ≤ g) × (c < self.nc) × (is_pilot self c g ≡ false) }
         ensures { result ≡ cell_index self g c }
     {

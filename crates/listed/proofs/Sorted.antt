@@ -2,15 +2,20 @@
 use Rattle.std.proofs.Common.{List, length, take, count_by, get_or, ap}
 use Rattle.std.proofs.lemmas.List.Sums.{count_by_more_yes, count_by_more_no}
 use Prim.Native.Nat.{ℕ, zero, suc, ◌+◌, ◌≤◌, ◌<◌}
-use mathlib.Core.Bool.{cond}
+use mathlib.Core.Bool.{Bool, true, false, cond}
 use mathlib.Core.Path.{◌≡◌, refl, sym, ◌∙◌}
 use native.Mathlib.Decide.{dec_lt}
 use native.Mathlib.Omega.{arith}
 use lib.Dec.{ltb}
 use borrow.Author.Tests.{lt-ltb, le-ltb}
 use lib.Seq.{take-length}
+use Rattle.std.specs.Int.{from_bool}
 use Rattle.seq.specs.Loop.Laws.{for_none, for_next}
 use Rattle.listed.specs.Order.{tally, below}
+
+pub bool_few : (b : Bool) → from_bool b ≤ 1
+bool_few true = omega arith
+bool_few false = omega arith
 
 cases : {P : Type 0} (a b : ℕ) → (a < b → P) → (b ≤ a → P) → P
 cases {P} a b f g = go (dec_lt a b)
@@ -24,9 +29,20 @@ module _ (symbol : ℕ → ℕ) (g : ℕ) where
   unfolding below tally
   more n = let s : suc n ≡ n + 1 = omega arith in rw s (for_next (tally symbol g) 0 n 0 (omega arith))
 
-  none_yet : below symbol 0 g ≡ 0
+  pub none_yet : below symbol 0 g ≡ 0
   unfolding below
   none_yet = sym (for_none (tally symbol g) 0 0)
+
+  -- one turn of a loop that counts them
+  pub one_more : (n m : ℕ) → m ≡ below symbol n g → m + from_bool (ltb (symbol n) g) ≡ below symbol (n + 1) g
+  one_more n m e = go (dec_lt (symbol n) g)
+    where
+      s : n + 1 ≡ suc n
+      s = omega arith
+
+      go : Dec (symbol n < g) → m + from_bool (ltb (symbol n) g) ≡ below symbol (n + 1) g
+      go (yes d) = rw (s, more n, lt-ltb (symbol n) g d, e) refl
+      go (no d) = let h : g ≤ symbol n = omega arith in let z : below symbol n g + 0 ≡ below symbol n g = omega arith in rw (s, more n, le-ltb (symbol n) g h, e) z
 
   counts : (n : ℕ) → symbol n < g → below symbol (suc n) g ≡ below symbol n g + 1
   counts n h = more n ∙ rw (lt-ltb (symbol n) g h) refl

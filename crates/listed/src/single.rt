@@ -5,9 +5,9 @@ ghost use Rattle.listed.specs.Listed.{May, by_all, records_in, InLists};
 
 use crate::order::starts;
 use est::{Estimate, Estimator};
+use judge::fit;
 use load::Pilots;
 use model::{Model, Setting};
-use refine::fit;
 
 // A cell, carrier c of symbol g, of a burst with this setting.
 #[derive(Clone, Copy)]

@@ -73,7 +73,7 @@ impl Loader<'_> {
         if g < m.hdr_end {
             return Found::Blank;
         }
-        let cell = (g - m.hdr_end) * s.dc + m.cell_index(c, g);
+        let cell = (g - m.hdr_end) * s.dc + m.cell_index(g, c);
         self.soft_at(cell)
     }
 }

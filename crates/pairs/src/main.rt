@@ -36,8 +36,9 @@ fn print_own(rt: &impl Print, j: usize, pair: Pair) -> io::Result<()> {
     let own = h.equal + l.equal;
     let numbers = h.others;
     let others = l.others;
-    print!(rt; "  own numbers equal: {own}; other cells' that differ: ")?;
-    println!(rt; "{numbers} of 33 channel numbers, {others} of 44 likelihoods")
+    println!(rt;
+        "  own numbers equal: {own}; other cells' that differ: {numbers} of 33 channel numbers, {others} of 44 likelihoods"
+    )
 }
 
 // Cell j, another cell's priors negated.

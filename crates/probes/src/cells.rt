@@ -49,7 +49,7 @@ pub fn probe_cell_index(number: u32, sparse: bool, g: usize, c: usize) -> usize
     if c >= m.nc || m.is_pilot(c, g) {
         return 0xFFFF;
     }
-    m.cell_index(c, g)
+    m.cell_index(g, c)
 }
 
 pub fn probe_known(

@@ -54,6 +54,6 @@ pub fn probe_decide(pts: &[f32; 128], bps: usize, r: FlatCell, out: &mut [f32]) 
         return 0;
     }
     let c = Cell::from(r);
-    demap::decide(c.y, c.h, &Points { bps, pts: *pts }).put(out, 0);
+    demap::decide_among(c.y, c.h, pts, bps).put(out, 0);
     1
 }

@@ -42,7 +42,7 @@ pub fn probe_to_slots(prior: &[f32], n: usize, out: &mut [f32]) -> u32
     if n == 0 || n > 607662 || n > out.len() {
         return 0;
     }
-    bits::to_slots(prior, &mut out[..n]);
+    bits::to_slots(prior, n, out);
     1
 }
 
@@ -52,6 +52,6 @@ pub fn probe_from_slots(slots: &[f32], n: usize, out: &mut [f32]) -> u32
     if n == 0 || n > 607662 || n > out.len() || n > slots.len() {
         return 0;
     }
-    bits::from_slots(slots, &mut out[..n]);
+    bits::from_slots(slots, n, out);
     1
 }

@@ -5,7 +5,7 @@ ghost use Rattle.std.specs.Prelude.{◌≡◌, cond, ◌&&◌, ◌*◌, leb, len
 ghost use Rattle.spread.specs.Spreader.{twiddles_of, forward_of, inverse_of};
 ghost use Rattle.probes.specs.Within.{Put};
 
-use spread::Spreader;
+use spread::{Factors, Spreader};
 
 pub fn probe_twiddles(m: usize, tw: &mut [f32; 218]) -> u32
     ensures { (result ≡ cond (leb 1 m && leb m 109) 1 0) × (tw.new ≡ cond (leb 1 m && leb m 109) (twiddles_of m) tw.old) }
@@ -13,9 +13,7 @@ pub fn probe_twiddles(m: usize, tw: &mut [f32; 218]) -> u32
     if m == 0 || m > 109 {
         return 0;
     }
-    // In two steps: tried, a field that is an array does not prove when stored straight.
-    let made = Spreader::new(m).tw;
-    *tw = made;
+    *tw = spread::twiddles(m);
     1
 }
 
@@ -26,7 +24,7 @@ pub fn probe_forward(tw: &[f32; 218], m: usize, v: &mut [f32]) -> u32
     if m > 109 || v.len() < 2 * m {
         return 0;
     }
-    Spreader { m, tw: *tw }.forward(v);
+    Factors { m, tw }.forward(v);
     1
 }
 

@@ -4,5 +4,4 @@ pub mod Plan
 pub mod Front
 pub mod Back
 pub mod Whole
-pub mod Fitted
 pub mod Independence

@@ -1,4 +1,5 @@
 -- refine.rs, `BurstGrid::refine`, line by line, as a function of a burst and its priors.
+unfoldable pub use Rattle.judge.specs.Fitted.{fitted_of, carrier_table, symbol_table}
 use Rattle.std.specs.Prelude.{ℕ, ◌+◌, ◌*◌, ◌≤◌, ◌≡◌, cond, List, ◌++◌, length, get_or, drop, Float}
 use Rattle.std.specs.Float.{nan}
 use Rattle.std.specs.Float.Ieee.{ne}
@@ -18,39 +19,17 @@ use Rattle.load.specs.declared.found.Source.{Source}
 use Rattle.load.specs.Find.{found_at}
 use Rattle.load.specs.Load.{loaded, start_of}
 use Rattle.load.specs.Fit.{source_of}
-use Rattle.est.specs.Model.{rf_of, rt_of, scales_of}
 use Rattle.est.specs.Estimate.{held_k}
 use Rattle.est.specs.declared.combine.Estimate.{Estimate}
-use Rattle.model.specs.Values.{numerology_of, window_of, fd_value, tm_value}
 use Rattle.model.specs.Select.{select_model}
 use Rattle.model.specs.declared.trial.Setting.{Setting}
 use Rattle.model.specs.declared.select.Model.{Model}
 use Rattle.expect.specs.declared.Shape.{Shape}
 use Rattle.expect.specs.Expect.{soft_cells, expected_of}
-use Rattle.judge.specs.declared.estimates.Fitted.{Fitted}
 use Rattle.judge.specs.Cells.{estimate_at, numbers_of}
 use Rattle.judge.specs.Judge.{judged}
 use Rattle.refine.specs.declared.settings.Settings.{Settings}
 use Rattle.refine.specs.declared.whole.Refined.{Refined}
-
--- ---- the model by its indices: self.set_model(fd, tm), self.mse_scale
-
-module _ (s : Setting) (m : Model) where
-  abbrev pub fd : Float
-  fd = fd_value s.l s.sparse m.fd
-
-  abbrev pub tm : Float
-  tm = tm_value s.l m.tm
-
-  unfoldable pub fitted_of : Fitted
-  fitted_of = record { w = window_of s.l s.ng s.k; u = scales_of (numerology_of s.l) fd tm; scale = m.scale }
-
-  -- self.rf and self.rt
-  unfoldable pub carrier_table : List Float
-  carrier_table = rf_of (numerology_of s.l) tm
-
-  unfoldable pub symbol_table : List Float
-  symbol_table = rt_of (numerology_of s.l) fd
 
 -- a burst as handed in, but for its priors: grid (re, im), sigma2 by carrier, cell_s2 by data cell
 pub record Burst : Type 0 where

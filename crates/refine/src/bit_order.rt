@@ -7,6 +7,6 @@ pub fn to_bit_order(room: &mut [f32], answer: &mut [f32])
     requires { (length room.old ≡ length answer.old) × (0 < length answer.old) × (length answer.old ≤ longest) }
     ensures { answer.new ≡ bit_order (length answer.old) answer.old }
 {
-    room.copy_from_slice(answer);
-    bits::from_slots(room, answer);
+    dsp::copy(answer, room);
+    bits::fill_bits(room, answer);
 }

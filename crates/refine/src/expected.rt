@@ -20,6 +20,6 @@ pub fn expected(
         shape: b.plan.shape,
         unit: b.unit,
     };
-    bits::to_slots(prior, answer);
+    bits::fill_slots(prior, answer);
     m.expect(answer, soft, channel);
 }

@@ -5,11 +5,10 @@ ghost use Rattle.judge.specs.Fit.{Fits};
 ghost use Rattle.model.specs.Select.{select_model};
 ghost use Rattle.refine.specs.Back.{Judgeable, JudgedWith, JudgedUnder};
 
-use crate::fitted::fit;
 use crate::settings::Plan;
 use crate::symbols::judge_symbols;
 use est::Estimator;
-use judge::{Judge, Spreading};
+use judge::{Judge, Spreading, fit};
 use load::Pilots;
 use model::Model;
 use points::Points;

@@ -4,7 +4,6 @@
 mod bit_order;
 mod burst_grid;
 mod expected;
-mod fitted;
 mod judging;
 mod listening;
 mod planned;
@@ -15,7 +14,7 @@ mod symbols;
 mod whole;
 
 pub use burst_grid::BurstGrid;
-pub use fitted::fit;
+pub use judge::fit;
 pub use listening::places_of;
 pub use planned::Planned;
 pub use settings::{Plan, Settings, plan_of, unit_points};

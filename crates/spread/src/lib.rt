@@ -6,4 +6,5 @@ mod spreader;
 mod transform;
 mod twiddle;
 
-pub use spreader::Spreader;
+pub use spreader::{Factors, Spreader};
+pub use twiddle::twiddles;

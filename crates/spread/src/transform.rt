@@ -3,10 +3,10 @@ ghost use Rattle.std.specs.Prelude.{◌≡◌, ◌*◌, ◌<◌, ◌≤◌, ◌+
 ghost use Rattle.dsp.specs.Flat.{complex_at};
 ghost use Rattle.spread.specs.Spreader.{factor, next, unitary, sum_of, transform, forward_of, inverse_of};
 
-use crate::Spreader;
+use crate::Factors;
 use dsp::Complex;
 
-impl Spreader {
+impl Factors<'_> {
     // The index of the next factor: k further on, around m.
     #[tactic(auto, unfolding(crate::specs::Spreader::next))]
     fn next(&self, k: usize, idx: usize) -> usize
@@ -33,9 +33,10 @@ impl Spreader {
     #[tactic(auto, unfolding(crate::specs::Spreader::factor))]
     fn factor(&self, idx: usize, inverse: bool) -> Complex
         requires { idx < 109 }
-        ensures { result ≡ factor inverse (complex_at self.now.tw idx) }
+        ensures { result ≡ factor inverse (complex_at self.now.tw.now idx) }
     {
-        let w = Complex::at(&self.tw, idx);
+        let tw = self.tw;
+        let w = Complex::at(tw, idx);
         if inverse { w.conj() } else { w }
     }
 
@@ -43,7 +44,7 @@ impl Spreader {
     #[tactic(auto, using(crate::proofs::Spreading::summing), unfolding(crate::specs::Spreader::turn, crate::specs::Spreader::sum_of))]
     fn sum(&self, inverse: bool, a: &[f32; 218], k: usize) -> Complex
         requires { k < self.now.m }
-        ensures { result ≡ sum_of self.now.m self.now.tw inverse a.now k }
+        ensures { result ≡ sum_of self.now.m self.now.tw.now inverse a.now k }
     {
         let mut acc = Complex::ZERO;
         let mut idx = 0;
@@ -61,7 +62,7 @@ impl Spreader {
     #[tactic(auto, using(crate::proofs::Spreading::writing), unfolding(crate::specs::Spreader::transform))]
     fn transform(&self, inverse: bool, a: &[f32; 218], b: &mut [f32])
         requires { 2 * self.now.m ≤ length b.old }
-        ensures { b.new ≡ transform self.now.m self.now.tw inverse a.now ++ drop (2 * self.now.m) b.old }
+        ensures { b.new ≡ transform self.now.m self.now.tw.now inverse a.now ++ drop (2 * self.now.m) b.old }
     {
         let s = self.unitary();
         // k is the output's number.
@@ -75,7 +76,7 @@ impl Spreader {
     #[tactic(auto, using(crate::proofs::Spreading::transform_copy))]
     fn in_place(&self, inverse: bool, v: &mut [f32])
         requires { 2 * self.now.m ≤ length v.old }
-        ensures { v.new ≡ transform self.now.m self.now.tw inverse v.old ++ drop (2 * self.now.m) v.old }
+        ensures { v.new ≡ transform self.now.m self.now.tw.now inverse v.old ++ drop (2 * self.now.m) v.old }
     {
         let n = 2 * self.m;
         let mut a = [0.0f32; 218];
@@ -87,7 +88,7 @@ impl Spreader {
     #[tactic(auto, unfolding(crate::specs::Spreader::forward_of))]
     pub fn forward(&self, v: &mut [f32])
         requires { 2 * self.now.m ≤ length v.old }
-        ensures { v.new ≡ forward_of self.now.m self.now.tw v.old ++ drop (2 * self.now.m) v.old }
+        ensures { v.new ≡ forward_of self.now.m self.now.tw.now v.old ++ drop (2 * self.now.m) v.old }
     {
         self.in_place(false, v);
     }
@@ -96,7 +97,7 @@ impl Spreader {
     #[tactic(auto, unfolding(crate::specs::Spreader::inverse_of))]
     pub fn inverse(&self, v: &mut [f32])
         requires { 2 * self.now.m ≤ length v.old }
-        ensures { v.new ≡ inverse_of self.now.m self.now.tw v.old ++ drop (2 * self.now.m) v.old }
+        ensures { v.new ≡ inverse_of self.now.m self.now.tw.now v.old ++ drop (2 * self.now.m) v.old }
     {
         self.in_place(true, v);
     }

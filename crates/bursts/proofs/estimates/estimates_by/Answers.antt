@@ -4,7 +4,7 @@ use Rattle.judge.specs.declared.estimates.Fitted.{Fitted}
 use Rattle.model.specs.Values.{window_of}
 use Rattle.model.specs.declared.trial.Setting.{Setting}
 use Rattle.model.specs.declared.select.Model.{Model}
-use Rattle.refine.specs.Refine.{fitted_of}
+use Rattle.judge.specs.Fitted.{fitted_of}
 use Rattle.bursts.specs.Estimating.{estimates_by}
 use Rattle.bursts.proofs.estimates.estimates_by.Goals as goal
 

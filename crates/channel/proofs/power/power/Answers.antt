@@ -12,4 +12,4 @@ unfolding channel_power power_by count_of
 returns c =
     let p = c.args.pilots.now in
     let n = length p.c.now in
-    rw (c.max-2.ensures, c.max.ensures, c.variances.ensures, variances_are (listed p) n, c.powers.ensures, powers_are (listed p) n, c.max-count.ensures, c.len.ensures, length_tab (pilot_at p.c.now p.g.now p.f.now) n) refl
+    rw (c.max-2.ensures, c.max.ensures, c.variances.ensures, variances_are (listed p) n, c.powers.ensures, powers_are (listed p) n, c.count-count.ensures, length_tab (pilot_at p.c.now p.g.now p.f.now) n) refl

@@ -12,4 +12,4 @@ returns-then-s c =
     let a = c.args in
     let s = a.self.now.shape in
     let n = s.nsym * s.dc * 3 in
-    expects_spread s a.self.now.unit.now.pts a.slots.now a.out.now _ _ a.self.now.bits c.soft_cells.ensures a.soft.now _ _ c.if-s.true (ap (λ (l : List Float). l ++ drop n a.soft.now) c.copy_from_slice.ensures.after) c.respread.ensures
+    expects_spread s a.self.now.unit.now.pts a.slots.now a.out.now _ _ a.self.now.bits c.soft_cells.ensures a.soft.now _ _ c.if-s.true (ap (λ (l : List Float). l ++ drop n a.soft.now) c.copy.ensures) c.respread.ensures

@@ -1,4 +1,5 @@
-use Rattle.std.proofs.Common.{◌-◌, sym, refl, ◌∙◌, arith, lit≤}
+use Rattle.std.proofs.Common.{ℕ, ◌-◌, ◌*◌, ◌/◌, sym, refl, ap, ◌∙◌, arith, lit≤}
+use Rattle.elementary.specs.FixedPoint.{B, turns}
 use Rattle.elementary.specs.Circular.{sin_turn, sin_sum, cos_turn, cos_sum}
 use Rattle.elementary.proofs.Turns.{turn_at, turn_none}
 use Rattle.elementary.proofs.TurnBounds.{divisor_sin, divisor_cos}
@@ -12,9 +13,15 @@ pub loop-j-preserved : goal.loop-j-preserved
 loop-j-preserved g c =
     let l = c.loop-j in
     let j = l.j - 1 in
+    let F = c.args.self.g in
+    let by : ℕ → ℕ = λ d. B - F * l.s / B / d in
     record {
-      sin = λ e. rw (divisor_sin g.row.K j e) (turn_at 1 j j (sin_turn c.args.self.g) l.s (omega (arith, c.loop-j-test.true)) (omega arith) ∙ l.invariant.sin e);
-      cos = λ e. rw (divisor_cos g.row.K j e (omega (arith, c.loop-j-test.true))) (turn_at 2 (l.j - 1 - 1) j (cos_turn c.args.self.g) l.s (omega (arith, c.loop-j-test.true)) (omega (arith, c.loop-j-test.true)) ∙ l.invariant.cos e);
+      sin = λ e.
+          ap (λ d. turns 1 (j - 1) (sin_turn F) (by d)) (divisor_sin g.row.K j e)
+          ∙ (turn_at 1 j j (sin_turn F) l.s (omega (arith, c.loop-j-test.true)) (omega arith) ∙ l.invariant.sin e);
+      cos = λ e.
+          ap (λ d. turns 2 (j - 1 - 1) (cos_turn F) (by d)) (divisor_cos g.row.K j e (omega (arith, c.loop-j-test.true)))
+          ∙ (turn_at 2 (j - 1) j (cos_turn F) l.s (omega (arith, c.loop-j-test.true)) (omega (arith, c.loop-j-test.true)) ∙ l.invariant.cos e);
       most = omega arith;
     }
 
