@@ -25,7 +25,7 @@ pub fn lines(rec: &[u8]) -> Text
     text
 }
 
-// In one write: no other program's output falls between, and the system is called once.
+// In one write, not one for each piece: between those another program's output could fall.
 pub fn write_lines<W: Write>(rec: &[u8], to: &mut W) -> io::Result<()>
     ensures { OnOk result (Appends (W.contents to.old) (W.contents to.new) (lines_of rec.now)) }
 {

@@ -1,10 +1,11 @@
-use Rattle.std.proofs.Common.{◌≡◌, ℕ, List, Some, arith, refl, sym, ap, ◌∙◌}
+use Rattle.std.proofs.Common.{◌≡◌, ◌++◌, ℕ, List, Some, arith, refl, sym, ap, ◌∙◌}
 use Rattle.std.specs.declared.option.Option.{Option}
 use Rattle.std.specs.Prelude.{unwrap_or}
 use Rattle.wire.specs.Shape.{bits_in, bits_of}
 use lib.ListN.{length-replicate}
 use Rattle.cause.specs.Causes.{cause_number, number_of}
 use Rattle.wire.proofs.Rows.{some_number, bits_or_none}
+use Rattle.burst.specs.Lines.{refused_of}
 use Rattle.burst.proofs.Accepted.{some_bits, few_bits}
 use Rattle.burst.proofs.Printing.{print_refused, print_answer}
 use Rattle.burst.proofs.lines.lines.Goals as goal
@@ -25,7 +26,7 @@ pub returns-in-Err : goal.returns-in-Err
 returns-in-Err c =
     let q = c.refine_record in
     let r = print_refused c.args.rec.now (cause_number c.in-Err.cause) _ q.new.out (length-replicate {A = ℕ} 16354 0) (rw c.in-Err.is at q.ensures) (some_number c.in-Err.cause) in
-    rw (c.put_refused.ensures, c.new-text.ensures, c.from.ensures) r
+    c.put_refused.ensures ∙ (ap (λ (l : List ℕ). l ++ refused_of c.from.result) c.new-text.ensures ∙ (ap refused_of c.from.ensures ∙ r))
 
 pub put_answer-requires : goal.put_answer-requires
 put_answer-requires c =
